@@ -1,0 +1,14 @@
+pub mod KeyLaws
+pub mod Ranks
+pub mod ReplacementLaws
+pub mod UnfoldingLaws
+pub mod ReadingLaws
+pub mod ReadingStability
+pub mod Contained
+pub mod PartLaws
+pub mod Ranking
+pub mod GivenDefinitions
+pub mod SmallCases
+pub mod IntegerOrder
+pub mod ReplacementParts
+pub mod ListExamples
