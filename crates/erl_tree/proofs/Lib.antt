@@ -1,0 +1,11 @@
+pub mod TokenTexts
+pub mod Gaps
+pub mod Spelled
+pub mod MembershipLaws
+pub mod MembershipStability
+pub mod FiniteMapLaws
+pub mod MapReads
+pub mod TextExamples
+pub mod Equations
+pub mod SpentSteps
+pub mod MembershipExamples

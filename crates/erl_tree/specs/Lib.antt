@@ -1,0 +1,14 @@
+pub mod Lists
+pub mod Lexis
+pub mod Spelling
+pub mod Functions
+pub mod Specs
+pub mod Readable
+pub mod Value
+pub mod FiniteMaps
+pub mod Membership
+pub mod Matching
+pub mod Running
+pub mod Safety
+pub mod SmallText
+pub mod SmallPrograms
