@@ -1,0 +1,7 @@
+pub mod ForEach
+pub mod BuiltIns
+pub mod Variables
+pub mod Everywhere
+pub mod SpecTerms
+pub mod FunctionNames
+pub mod Readability

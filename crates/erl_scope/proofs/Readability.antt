@@ -1,0 +1,119 @@
+-- The tests of the forms and of their names say together that a module is flat.
+use Rattle.std.proofs.Common.{◌≡◌, List, [], ◌∷◌, map, ◌↔◌, Bool, true, false, refl, sym, ap, ◌∙◌, subst, true≢false, Option, Some, None, is_some}
+use Rattle.std.specs.Prelude.{IsTrue, IsSome, IfOk, Result, Ok, Err}
+use Rattle.std.specs.Option.{unwrap_or}
+use Rattle.type_terms.specs.declared.list.NoMemory.{NoMemory}
+use Rattle.type_terms.specs.declared.spec.FunSpec.{FunSpec}
+use Rattle.erl_tree.specs.declared.form.Function.{Function}
+use Rattle.erl_tree.specs.declared.form.TreeForm.{TreeForm}
+use Rattle.erl_tree.specs.declared.form.TreeForm.TheVariants as F
+use Rattle.erl_tree.specs.declared.form.Module.{Module}
+use Rattle.erl_tree.specs.Lists.{Every, Among, AreDistinct}
+use Rattle.erl_tree.specs.Functions.{function_id, functions_in, function_ids}
+use Rattle.erl_tree.specs.Specs.{function_spec, specs_in, read_specs, specs_of, spec_id}
+use Rattle.erl_tree.specs.Spelling.{IsWellFormed}
+use Rattle.erl_tree.specs.Readable.{IsScoped, IsScopedClause, HasDistinctHead, HasDistinctHeads, is_built_in, IsFlatModule}
+use Rattle.erl_scope.specs.declared.function_names.Role.TheVariants.{Definition, Specification}
+use Rattle.erl_scope.specs.Names.{names_in, IsRightClause, IsRightFunction, IsRightForm, HasMatchingNames}
+use Rattle.erl_scope.proofs.Everywhere.{Every-as, Every-both, Every-map}
+use Rattle.erl_scope.proofs.SpecTerms.{all-some, some-all, spec_ids}
+use Rattle.erl_scope.proofs.FunctionNames.{defined, specified}
+
+-- ---- right forms
+
+right_specs : (forms : List TreeForm) → Every IsRightForm forms → Every (λ s. IsSome (function_spec s)) (specs_in forms)
+right_specs [] h = tt
+right_specs (F.Spec s ∷ forms) h = (h.0, right_specs forms h.1)
+right_specs (_ ∷ forms) h = right_specs forms h.1
+
+right_functions : (forms : List TreeForm) → Every IsRightForm forms → Every IsRightFunction (functions_in forms)
+right_functions [] h = tt
+right_functions (F.Function f ∷ forms) h = (h.0, right_functions forms h.1)
+right_functions (_ ∷ forms) h = right_functions forms h.1
+
+right_forms : (forms : List TreeForm) → Every (λ s. IsSome (function_spec s)) (specs_in forms) → Every IsRightFunction (functions_in forms) → Every IsRightForm forms
+right_forms [] h g = tt
+right_forms (F.Spec s ∷ forms) h g = (h.0, right_forms forms h.1 g)
+right_forms (F.Function f ∷ forms) h g = (g.0, right_forms forms h g.1)
+right_forms (_ ∷ forms) h g = (tt, right_forms forms h g)
+
+-- ---- right functions
+
+scoped_function : (f : Function) → IsRightFunction f → IsScoped f
+scoped_function f h = Every-as IsRightClause IsScopedClause (λ c r. r.0) f.clauses h.1
+
+distinct_function : (f : Function) → IsRightFunction f → HasDistinctHeads f
+distinct_function f h = Every-as IsRightClause HasDistinctHead (λ c r. r.1) f.clauses h.1
+
+functions_right : (fs : List Function) → Every (λ id. is_built_in id ≡ false) (map function_id fs) → Every IsScoped fs → Every HasDistinctHeads fs → Every IsRightFunction fs
+functions_right [] h g k = tt
+functions_right (f ∷ fs) h g k = ((h.0, Every-both IsScopedClause HasDistinctHead f.clauses g.0 k.0), functions_right fs h.1 g.1 k.1)
+
+-- ---- specs
+
+there : (o : Option (List FunSpec)) → IsSome o → o ≡ Some (unwrap_or o [])
+there None h = absurd (true≢false (sym h))
+there (Some fs) h = refl
+
+specs_there : (m : Module) → IsSome (read_specs m) → read_specs m ≡ Some (specs_of m)
+unfolding specs_of
+specs_there m h = there (read_specs m) h
+
+-- ---- the whole
+
+pub flat : (m : Module) → IsWellFormed m → Every IsRightForm m.forms → HasMatchingNames m.forms → IsFlatModule m
+flat m well_formed forms names =
+    let right : Every IsRightFunction (functions_in m.forms) = right_functions m.forms forms in
+    let read : read_specs m ≡ Some (specs_of m) = specs_there m (all-some function_spec (specs_in m.forms) (right_specs m.forms forms)) in
+    let ids : names_in Definition m.forms ≡ function_ids m = defined m.forms in
+    let specs : names_in Specification m.forms ≡ map spec_id (specs_of m) = specified m.forms ∙ sym (spec_ids (specs_in m.forms) (specs_of m) read) in
+    record {
+      well_formed = well_formed;
+      readable = record {
+        specs_read = read;
+        functions_distinct = subst AreDistinct ids names.defined_once;
+        not_built_in = Every-map function_id (λ id. is_built_in id ≡ false) (functions_in m.forms) (Every-as IsRightFunction (λ f. is_built_in (function_id f) ≡ false) (λ f h. h.0) (functions_in m.forms) right);
+        specs_distinct = subst AreDistinct specs names.specified_once;
+        specified = subst (λ s. Every (λ id. Among id s) (function_ids m)) specs (subst (Every (λ id. Among id (names_in Specification m.forms))) ids names.specified);
+        defined = subst (λ s. Every (λ id. Among id s) (map spec_id (specs_of m))) ids (subst (Every (λ id. Among id (names_in Definition m.forms))) specs names.defined);
+        scoped = Every-as IsRightFunction IsScoped scoped_function (functions_in m.forms) right;
+      };
+      distinct_heads = Every-as IsRightFunction HasDistinctHeads distinct_function (functions_in m.forms) right;
+    }
+
+pub flat_forms : (m : Module) → IsFlatModule m → Every IsRightForm m.forms
+flat_forms m h =
+    right_forms m.forms (some-all function_spec (specs_in m.forms) (ap is_some h.readable.specs_read))
+    (functions_right (functions_in m.forms) h.readable.not_built_in h.readable.scoped h.distinct_heads)
+
+pub flat_names : (m : Module) → IsFlatModule m → HasMatchingNames m.forms
+flat_names m h =
+    let ids : function_ids m ≡ names_in Definition m.forms = sym (defined m.forms) in
+    let specs : map spec_id (specs_of m) ≡ names_in Specification m.forms = spec_ids (specs_in m.forms) (specs_of m) h.readable.specs_read ∙ sym (specified m.forms) in
+    record {
+      defined_once = subst AreDistinct ids h.readable.functions_distinct;
+      specified_once = subst AreDistinct specs h.readable.specs_distinct;
+      specified = subst (λ s. Every (λ id. Among id s) (names_in Definition m.forms)) specs (subst (Every (λ id. Among id (map spec_id (specs_of m)))) ids h.readable.specified);
+      defined = subst (λ s. Every (λ id. Among id s) (names_in Specification m.forms)) ids (subst (Every (λ id. Among id (function_ids m))) specs h.readable.defined);
+    }
+
+-- ---- what the test of a module answers
+
+module _ (m : Module) (forms : List TreeForm) (of_module : forms ≡ m.forms) (a : Bool) (says : IsTrue a ↔ Every IsRightForm forms) where
+  pub wrong_forms : a ≡ false → IsFlatModule m → IsTrue false
+  wrong_forms fails h = absurd (true≢false (sym (says.1 (subst (Every IsRightForm) (sym of_module) (flat_forms m h))) ∙ fails))
+
+  module _ (r : Result Bool NoMemory) (tells : IfOk r (λ b. IsTrue b ↔ HasMatchingNames forms)) where
+    pub sound : IsWellFormed m → a ≡ true → IfOk r (λ b. IsTrue b → IsFlatModule m)
+    sound well_formed holds = by r tells
+      where
+        by : (q : Result Bool NoMemory) → IfOk q (λ b. IsTrue b ↔ HasMatchingNames forms) → IfOk q (λ b. IsTrue b → IsFlatModule m)
+        by (Ok b) t = λ e. flat m well_formed (subst (Every IsRightForm) of_module (says.0 holds)) (subst HasMatchingNames of_module (t.0 e))
+        by (Err e) t = t
+
+    pub complete : IfOk r (λ b. IsFlatModule m → IsTrue b)
+    complete = by r tells
+      where
+        by : (q : Result Bool NoMemory) → IfOk q (λ b. IsTrue b ↔ HasMatchingNames forms) → IfOk q (λ b. IsFlatModule m → IsTrue b)
+        by (Ok b) t = λ h. t.1 (subst HasMatchingNames (sym of_module) (flat_names m h))
+        by (Err e) t = t

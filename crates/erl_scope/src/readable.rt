@@ -1,0 +1,31 @@
+//! Whether names are used rightly in a flat module.
+
+ghost use Rattle.std.specs.Prelude.{IsTrue, IfOk};
+ghost use Rattle.erl_tree.specs.Spelling.{IsWellFormed};
+ghost use Rattle.erl_tree.specs.Readable.{IsFlatModule};
+
+use crate::forms::are_right_forms;
+use crate::function_names::has_matching_names;
+use erl_tree::Module;
+use std::alloc::Global;
+use type_terms::NoMemory;
+
+/// Whether names are used rightly in a well-formed module: each spec has known types, no function
+/// is built in or defined twice, each has one spec and each spec a function, and variables are
+/// distinct in each head and bound where they are used (Erlang Reference Manual, "Functions",
+/// "Types and Function Specifications", "Variables").
+///
+/// # Errors
+///
+/// `NoMemory` where memory runs out.
+pub fn is_readable(alloc: Global, module: &Module) -> Result<bool, NoMemory>
+    requires { IsWellFormed «module».now }
+    ensures sound { IfOk result (λ answer. IsTrue answer → IsFlatModule «module».now) }
+    ensures complete { IfOk result (λ answer. IsFlatModule «module».now → IsTrue answer) }
+{
+    let forms = module.forms.as_slice();
+    if !are_right_forms(forms) {
+        return Ok(false);
+    }
+    has_matching_names(alloc, forms)
+}

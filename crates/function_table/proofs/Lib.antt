@@ -1,0 +1,3 @@
+pub mod Distinct
+pub mod Lookups
+pub mod CallerLemmas
