@@ -1,0 +1,5 @@
+pub mod Constraints
+pub mod Failures
+pub mod FlatTypes
+pub mod SpecTables
+pub mod Examples
