@@ -1,0 +1,3 @@
+-module(a).
+-spec f(integer()) -> integer().
+f(X) -> X.

@@ -1,0 +1,9 @@
+pub mod HeldPairs
+pub mod Written
+pub mod FormLists
+pub mod Flat
+pub mod FunctionAt
+pub mod Verdicts
+pub mod Loaded
+pub mod Said
+pub mod Accepts

@@ -1,0 +1,6 @@
+use Rattle.std.proofs.Common.{◌≡◌, ◌≤◌, length, take}
+use Rattle.erl_tree.specs.Functions.{functions_in}
+use Rattle.etylizer_program.proofs.count.count_functions.Given as goal
+
+abbrev pub invariant-forms : goal.invariant-forms
+invariant-forms l = (l.count ≡ length (functions_in (take l.form-index l.forms))) × (l.count ≤ l.form-index)

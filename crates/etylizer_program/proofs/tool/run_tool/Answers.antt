@@ -1,0 +1,27 @@
+use Rattle.std.proofs.Common.{arith, string_bytes, map}
+use Rattle.etylizer_program.proofs.Said.{check_said}
+use Rattle.etylizer_program.proofs.Accepts.{accepts_safe_text, judges, breaks_off}
+use Rattle.etylizer_program.proofs.tool.run_tool.Goals as goal
+
+pub returns-in-Some-Check-clause-accepted : goal.returns-in-Some-Check-clause-accepted
+returns-in-Some-Check-clause-accepted g c = λ is.
+    accepts_safe_text c.check_file.result (map string_bytes c.args.words.now.items) c.as_bytes.result.now (g.F.Files.held c.args.files.now) (g.O.Sink.written c.args.out.now) (g.O.Sink.written c.check_file.new.out) is
+    (check_said string_bytes c.args.words.now.items c.index.result.now c.as_bytes.result.now c.in-Some-Check.field-0 c.index.ensures c.as_bytes.ensures.value c.in-Some-Check.ensures)
+    (c.check_file.ensures.judged (omega arith))
+
+pub returns-in-Some-Check-clause-judged : goal.returns-in-Some-Check-clause-judged
+returns-in-Some-Check-clause-judged g c = λ small not_usage.
+    judges (map string_bytes c.args.words.now.items) c.as_bytes.result.now
+    (check_said string_bytes c.args.words.now.items c.index.result.now c.as_bytes.result.now c.in-Some-Check.field-0 c.index.ensures c.as_bytes.ensures.value c.in-Some-Check.ensures)
+    (c.check_file.ensures.judged small)
+
+pub returns-in-Some-Check-clause-steady_files : goal.returns-in-Some-Check-clause-steady_files
+returns-in-Some-Check-clause-steady_files g c = λ sure named.
+    c.check_file.ensures.steady_files sure (named c.as_bytes.result.now
+    (check_said string_bytes c.args.words.now.items c.index.result.now c.as_bytes.result.now c.in-Some-Check.field-0 c.index.ensures c.as_bytes.ensures.value c.in-Some-Check.ensures))
+
+pub returns-in-Some-Check-clause-beginning : goal.returns-in-Some-Check-clause-beginning
+returns-in-Some-Check-clause-beginning g c = λ late.
+    breaks_off (map string_bytes c.args.words.now.items) c.as_bytes.result.now (g.F.Files.held c.args.files.now) (g.O.Sink.written c.args.out.now) (g.O.Sink.written c.check_file.new.out)
+    (check_said string_bytes c.args.words.now.items c.index.result.now c.as_bytes.result.now c.in-Some-Check.field-0 c.index.ensures c.as_bytes.ensures.value c.in-Some-Check.ensures)
+    (c.check_file.ensures.beginning late)

@@ -1,0 +1,125 @@
+-- What the program says of a module's text.
+use Rattle.std.specs.Prelude.{◌≡◌, ◌<◌, ◌+◌, ◌↔◌, ℕ, List, [], ◌∷◌, length, slice_get, Some}
+use Rattle.std.specs.Option.{option_map}
+use Rattle.type_terms.specs.Definitions.{given_definitions}
+use Rattle.type_terms.specs.declared.spec.Kind.{Kind}
+use Rattle.erl_tree.specs.declared.token.Place.{Place}
+use Rattle.erl_tree.specs.declared.token.Node.{Node}
+use Rattle.erl_tree.specs.declared.form.Function.{Function}
+use Rattle.erl_tree.specs.declared.form.SpecKind.{SpecKind}
+use Rattle.erl_tree.specs.declared.form.Module.{Module}
+use Rattle.erl_tree.specs.Functions.{functions_of, clauses_arity}
+use Rattle.erl_tree.specs.Specs.{specs_of, specs_in}
+use Rattle.erl_tree.specs.Spelling.{SpellsModule}
+use Rattle.erl_tree.specs.Readable.{IsFlatModule}
+use Rattle.erl_tree.specs.Safety.{IsSafe, IsSafeText}
+use Rattle.erl_parser.specs.Answers.{HasIntegersInLimit}
+use Rattle.cert_checker.specs.declared.refusal.Shown.{Shown}
+use Rattle.cert_checker.specs.declared.refusal.FirstRefusal.{FirstRefusal}
+use Rattle.cert_checker.specs.declared.refusal.FirstRefusal.TheVariants.{NoMemory as NoMemoryToCheck, Failed as FailedConstraint}
+use Rattle.cert_checker.specs.Failures.{ShowsFirstFailure}
+use Rattle.etylizer_program.specs.declared.check.Refused.{Refused}
+use Rattle.etylizer_program.specs.declared.check.Refused.TheVariants.{NoMemory as NoMemoryForText, TooLong as TooLongText, NotBuilt as NotBuiltText, Types}
+use Rattle.etylizer_program.specs.declared.report.Verdict.{Verdict}
+use Rattle.etylizer_program.specs.declared.report.Verdict.TheVariants.{Accepted, Failed, TooLong, NotBuilt, Usage}
+
+-- the greatest number of bytes of a module's text
+abbrev pub text_limit : ℕ
+text_limit = 1048576
+
+-- the bytes spell this module and no other one, and it is flat
+pub record IsReadAs (text : List ℕ) (m : Module) : Type 0 where
+  pub spelled : SpellsModule text m
+  pub only : (other : Module) → SpellsModule text other → other ≡ m
+  pub flat : IsFlatModule m
+
+-- the bytes spell no flat module all of whose integers are within the limit
+abbrev pub IsNotRead : List ℕ → Type 0
+IsNotRead text = (m : Module) → SpellsModule text m → IsFlatModule m → HasIntegersInLimit m → ⊥
+
+-- ---- modules that are accepted
+
+-- the number of functions of a module
+abbrev pub function_count : Module → ℕ
+function_count m = length (functions_of m)
+
+-- the number of clauses of these specs together
+abbrev pub clauses_in : List (Node SpecKind) → ℕ
+clauses_in [] = 0
+clauses_in (spec ∷ specs) = length spec.kind.clauses + clauses_in specs
+
+-- the number of clauses of the specs of a module
+abbrev pub spec_clause_count : Module → ℕ
+spec_clause_count m = clauses_in (specs_in m.forms)
+
+-- the module's name and the numbers of its functions and spec clauses
+pub record IsSummary (m : Module) (name : List ℕ) (functions clauses : ℕ) : Type 0 where
+  pub named : name ≡ m.name
+  pub functions_counted : functions ≡ function_count m
+  pub clauses_counted : clauses ≡ spec_clause_count m
+
+-- the module is safe, and this is its summary
+pub record IsAcceptedModule (m : Module) (name : List ℕ) (functions clauses : ℕ) : Type 0 where
+  pub safe : IsSafe m (specs_of m) given_definitions
+  pub summary : IsSummary m name functions clauses
+
+-- the text is a safe text, and this is its module's summary
+pub record IsAcceptedText (text name : List ℕ) (functions clauses : ℕ) : Type 0 where
+  pub safe : IsSafeText text
+  pub summary : IsSummary safe.tree name functions clauses
+
+-- ---- modules that are refused
+
+-- a constraint of the module fails
+abbrev pub IsFailure : Module → FirstRefusal → Type 0
+IsFailure m NoMemoryToCheck = ⊥
+IsFailure m (FailedConstraint function place kind shown) = ShowsFirstFailure m (FailedConstraint function place kind shown)
+
+-- why a module that was read may be refused
+abbrev pub IsModuleRefusal : Module → Refused → Type 0
+IsModuleRefusal m NoMemoryForText = Unit {0}
+IsModuleRefusal m TooLongText = ⊥
+IsModuleRefusal m NotBuiltText = ⊥
+IsModuleRefusal m (Types refusal) = IsFailure m refusal
+
+-- why a text may be refused
+abbrev pub IsTextRefusal : List ℕ → Refused → Type 0
+IsTextRefusal text NoMemoryForText = Unit {0}
+IsTextRefusal text TooLongText = text_limit < length text
+IsTextRefusal text NotBuiltText = IsNotRead text
+IsTextRefusal text (Types refusal) = (m : Module) × IsReadAs text m × IsFailure m refusal
+
+-- a function's name and arity
+abbrev pub name_and_arity : Function → List ℕ × ℕ
+name_and_arity f = (f.name, clauses_arity f.clauses)
+
+-- a constraint of the module fails, in the first spec clause of this function, with the place, kind and element that are shown
+pub record IsFailedModule (m : Module) (name function : List ℕ) (arity clause : ℕ) (place : Place) (kind : Kind) (shown : Shown) : Type 0 where
+  pub number : ℕ
+  pub failed : ShowsFirstFailure m (FailedConstraint number place kind shown)
+  pub named : name ≡ m.name
+  pub in_function : option_map name_and_arity (slice_get (functions_of m) number) ≡ Some (function, arity)
+  pub first_clause : clause ≡ 1
+
+-- ---- verdicts
+
+-- what a verdict says of a module that was read
+abbrev pub IsModuleVerdict : Module → Verdict → Type 0
+IsModuleVerdict m (Accepted name functions clauses) = IsAcceptedModule m name functions clauses
+IsModuleVerdict m (Failed name function arity clause place kind shown) = IsFailedModule m name function arity clause place kind shown
+IsModuleVerdict m TooLong = ⊥
+IsModuleVerdict m NotBuilt = ⊥
+IsModuleVerdict m Usage = ⊥
+
+-- what a verdict says of a text
+abbrev pub IsTextVerdict : List ℕ → Verdict → Type 0
+IsTextVerdict text (Accepted name functions clauses) = IsAcceptedText text name functions clauses
+IsTextVerdict text (Failed name function arity clause place kind shown) = (m : Module) × IsReadAs text m × IsFailedModule m name function arity clause place kind shown
+IsTextVerdict text TooLong = text_limit < length text
+IsTextVerdict text NotBuilt = IsNotRead text
+IsTextVerdict text Usage = ⊥
+
+-- the verdict is right, and says that the text is too long exactly where it is
+pub record IsRightVerdict (text : List ℕ) (verdict : Verdict) : Type 0 where
+  pub right : IsTextVerdict text verdict
+  pub too_long : (text_limit < length text) ↔ (verdict ≡ TooLong)

@@ -1,0 +1,87 @@
+ghost use Rattle.std.specs.Prelude.{◌≡◌, ◌<◌, ◌≤◌, length, IfOk};
+ghost use Rattle.cert_checker.specs.Failures.{ShowsFirstFailure};
+ghost use Rattle.etylizer_program.specs.Check.{text_limit, IsModuleVerdict, IsRightVerdict, IsTextRefusal};
+
+use crate::check::{Refused, check_text};
+use crate::count::function_at;
+use crate::report::Verdict;
+use cert_checker::{FirstRefusal, Shown};
+use erl_parser::{FirstFault, read_first};
+use erl_tree::{Module, Place};
+use std::alloc::Global;
+use type_terms::{Kind, NoMemory, Plain};
+
+/// What is to be said of a module's text.
+pub fn judge(alloc: Global, text: &[u8]) -> Result<Verdict, NoMemory>
+    ensures { IfOk result (IsRightVerdict text.now) }
+{
+    match check_text(alloc, text) {
+        Ok(accepted) => Ok(Verdict::Accepted {
+            name: accepted.name,
+            functions: accepted.functions,
+            clauses: accepted.clauses,
+        }),
+        Err(Refused::NoMemory) => Err(NoMemory),
+        Err(Refused::TooLong) => Ok(Verdict::TooLong),
+        Err(Refused::NotBuilt) => Ok(Verdict::NotBuilt),
+        Err(Refused::Types(FirstRefusal::NoMemory)) => unreachable!(),
+        Err(
+            Refused::Types(
+                FirstRefusal::Failed {
+                    function,
+                    place,
+                    kind,
+                    shown,
+                },
+            ),
+        ) => judge_failure(alloc, text, function, place, kind, shown),
+    }
+}
+
+/// The verdict on a text in which a constraint fails, in the function with this number. The text is
+/// read again, to name the function.
+fn judge_failure(
+    alloc: Global,
+    text: &[u8],
+    number: usize,
+    place: Place,
+    kind: Kind,
+    shown: Shown,
+) -> Result<Verdict, NoMemory>
+    requires within { length text.now ≤ text_limit }
+    requires failed { IsTextRefusal text.now (Refused.Types (FirstRefusal.Failed number place kind shown)) }
+    ensures { IfOk result (IsRightVerdict text.now) }
+{
+    match read_first(alloc, text) {
+        Ok(tree) => failed_verdict(alloc, &tree, number, place, kind, shown),
+        Err(FirstFault::NoMemory) => Err(NoMemory),
+        // It doesn't come after a first reading, and would be right of the text.
+        Err(FirstFault::NotBuilt) => Ok(Verdict::NotBuilt),
+    }
+}
+
+/// The verdict on a constraint that fails, in the function with this number.
+fn failed_verdict(
+    alloc: Global,
+    tree: &Module,
+    number: usize,
+    place: Place,
+    kind: Kind,
+    shown: Shown,
+) -> Result<Verdict, NoMemory>
+    requires { ShowsFirstFailure tree.now (FirstRefusal.Failed number place kind shown) }
+    ensures { IfOk result (IsModuleVerdict tree.now) }
+{
+    let function = function_at(tree.forms.as_slice(), number).unwrap();
+    let name = tree.name.copy(alloc)?;
+    let function_name = function.name.copy(alloc)?;
+    Ok(Verdict::Failed {
+        name,
+        function: function_name,
+        arity: function.arity() as u64,
+        clause: 1,
+        place,
+        kind,
+        shown,
+    })
+}
