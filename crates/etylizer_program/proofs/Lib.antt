@@ -7,3 +7,4 @@ pub mod Verdicts
 pub mod Loaded
 pub mod Said
 pub mod Accepts
+pub mod SafeTexts

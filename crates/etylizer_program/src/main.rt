@@ -4,6 +4,7 @@
 mod check;
 mod command;
 mod count;
+pub mod examples;
 mod judge;
 mod outside;
 mod report;
