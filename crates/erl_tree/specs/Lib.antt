@@ -1,6 +1,8 @@
 pub mod Lists
 pub mod Lexis
 pub mod Spelling
+pub mod Grammar
+pub mod Limits
 pub mod Functions
 pub mod Specs
 pub mod Readable

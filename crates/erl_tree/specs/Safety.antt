@@ -15,7 +15,7 @@ use Rattle.erl_tree.specs.Lists.{Among}
 use Rattle.erl_tree.specs.Functions.{functions_of, clauses_arity}
 use Rattle.erl_tree.specs.Specs.{specs_of}
 use Rattle.erl_tree.specs.Readable.{IsReadable}
-use Rattle.erl_tree.specs.Spelling.{SpellsModule}
+use Rattle.erl_tree.specs.Grammar.{SpellsModule}
 use Rattle.erl_tree.specs.Value.{Value, named_fun, Run, came}
 use Rattle.erl_tree.specs.Membership.{Program, InTerm, values_in, arrows_of, IsGoodRun}
 use Rattle.erl_tree.specs.Running.{apply, code_of, program_of}

@@ -1,20 +1,21 @@
--- The tokens of a tree, and which trees are well formed: the grammar of the Erlang Reference Manual, in its part on flat modules.
--- A flat module has specs of one clause over plain atoms and types without arguments, and functions of one clause without a guard, whose parameters are variables and whose body is one integer, atom or variable. What other forms spell isn't written yet: `tokens_of` gives them no tokens and they aren't well formed, so no text spells them. A head may name a variable twice, as the grammar has it; such a function goes wrong when it is run, until equality of values is written.
+-- The tokens of a tree: the grammar of the Erlang Reference Manual, in its part on flat modules.
+-- A flat module has specs of one clause over integers, plain atoms, ranges, types without arguments, parentheses and unions. Its functions have one clause without a guard, whose parameters are variables and whose body is one expression of integers, atoms, variables, parentheses, `+`, `-`, `*` and calls. What other forms spell isn't written yet: they have no tokens here and aren't well formed, so no text spells them. A head may name a variable twice, as the grammar has it; such a function goes wrong when it is run, until equality of values is written.
 -- A word that ends in `_layer` says something of one level of a tree.
-use Rattle.std.specs.Prelude.{◌≡◌, ℕ, zero, suc, List, [], ◌∷◌, ◌++◌, ◌≤◌, map, length, None, codes}
-use Rattle.erl_tree.specs.Lists.{Every}
-use Rattle.erl_tree.specs.Lexis.{SpellsTokens}
+use Rattle.std.specs.Prelude.{ℕ, List, [], ◌∷◌, ◌++◌, map, Option, Some, None, codes}
 use Rattle.erl_tree.specs.declared.token.Place.{Place}
 use Rattle.erl_tree.specs.declared.token.Placed.{Placed}
 use Rattle.erl_tree.specs.declared.token.Node.{Node}
 use Rattle.erl_tree.specs.declared.token.Token.{Token}
 use Rattle.erl_tree.specs.declared.token.Token.TheVariants as T
+use Rattle.erl_tree.specs.declared.pattern.LiteralKind.{LiteralKind}
+use Rattle.erl_tree.specs.declared.pattern.LiteralKind.TheVariants as L
 use Rattle.erl_tree.specs.declared.pattern.PatternKind.{PatternKind, out-PatternKind}
 use Rattle.erl_tree.specs.declared.pattern.PatternKind.TheOpen as P
-use Rattle.erl_tree.specs.declared.type_expr.TypeKind.{TypeKind, out-TypeKind}
+use Rattle.erl_tree.specs.declared.type_expr.TypeKind.{TypeKind, fold-TypeKind}
 use Rattle.erl_tree.specs.declared.type_expr.TypeKind.TheOpen as Y
-use Rattle.erl_tree.specs.declared.type_expr.MapPart.{MapPart}
-use Rattle.erl_tree.specs.declared.expr.ExprKind.{ExprKind, out-ExprKind}
+use Rattle.erl_tree.specs.declared.expr.BinaryOp.{BinaryOp}
+use Rattle.erl_tree.specs.declared.expr.BinaryOp.TheVariants.{Add, Sub, Mul}
+use Rattle.erl_tree.specs.declared.expr.ExprKind.{ExprKind, fold-ExprKind}
 use Rattle.erl_tree.specs.declared.expr.ItemKind.{ItemKind, out-ItemKind}
 use Rattle.erl_tree.specs.declared.expr.ClauseKind.{ClauseKind, out-ClauseKind}
 use Rattle.erl_tree.specs.declared.expr.QualifierKind.{QualifierKind}
@@ -49,17 +50,51 @@ params_tokens (x ∷ []) (c ∷ a ∷ []) rest = x ++ mark (codes ")") c ∷ mar
 params_tokens (x ∷ y ∷ ys) (m ∷ ms) rest = x ++ mark (codes ",") m ∷ params_tokens (y ∷ ys) ms rest
 params_tokens _ _ rest = []
 
+-- items with a comma between them and a closing parenthesis behind them, at these marks
+abbrev pub arguments_tokens : List (List Placed) → List Place → List Placed
+arguments_tokens [] (c ∷ []) = mark (codes ")") c ∷ []
+arguments_tokens (x ∷ []) (c ∷ []) = x ++ mark (codes ")") c ∷ []
+arguments_tokens (x ∷ y ∷ ys) (m ∷ ms) = x ++ mark (codes ",") m ∷ arguments_tokens (y ∷ ys) ms
+arguments_tokens _ _ = []
+
 -- ---- the tokens of a tree
 
--- the tokens of one level of a type: `a`, `integer()`
-abbrev pub type_layer : Y.TypeKind-F TypeKind MapPart → List Place → List Placed
+-- the tokens of what stands in a node, at the node's marks
+abbrev pub Shown : Type 0
+Shown = List Place → List Placed
+
+-- the tokens of a node
+abbrev pub shown : Node Shown → List Placed
+shown n = n.kind n.marks
+
+-- the tokens of one level of a literal: `1`, `-1`
+abbrev pub literal_layer : LiteralKind → List Place → List Placed
+literal_layer (L.Int n) (p ∷ []) = at (T.Int n) p ∷ []
+literal_layer (L.NegInt n) (h ∷ p ∷ []) = mark (codes "-") h ∷ at (T.Int n) p ∷ []
+literal_layer _ _ = []
+
+-- the tokens of a literal
+abbrev pub literal_tokens : Node LiteralKind → List Placed
+literal_tokens l = literal_layer l.kind l.marks
+
+-- the tokens of one level of a type: `a`, `1`, `-1`, `(T)`, `T | U`, `1..2`, `integer()`
+abbrev pub type_layer : Y.TypeKind-F Shown (Unit {0}) → Shown
 type_layer (Y.Atom a) (p ∷ []) = atom a p ∷ []
-type_layer (Y.Use None name []) (p ∷ q ∷ r ∷ []) = atom name p ∷ mark (codes "(") q ∷ mark (codes ")") r ∷ []
+type_layer (Y.Int n) (p ∷ []) = at (T.Int n) p ∷ []
+type_layer (Y.NegInt n) (h ∷ p ∷ []) = mark (codes "-") h ∷ at (T.Int n) p ∷ []
+type_layer (Y.Paren t) (o ∷ c ∷ []) = mark (codes "(") o ∷ (shown t ++ mark (codes ")") c ∷ [])
+type_layer (Y.Or t u) (m ∷ []) = shown t ++ mark (codes "|") m ∷ shown u
+type_layer (Y.Range low high) (m ∷ []) = literal_tokens low ++ mark (codes "..") m ∷ literal_tokens high
+type_layer (Y.Use None name []) (p ∷ o ∷ c ∷ []) = atom name p ∷ mark (codes "(") o ∷ mark (codes ")") c ∷ []
 type_layer _ _ = []
+
+-- the tokens of what stands in a type's node
+unfoldable pub type_shown : TypeKind → Shown
+type_shown t = fold-TypeKind Shown (Unit {0}) type_layer (λ part. tt) t
 
 -- the tokens of a type
 abbrev pub type_tokens : Node TypeKind → List Placed
-type_tokens t = type_layer (out-TypeKind t.kind) t.marks
+type_tokens t = type_shown t.kind t.marks
 
 -- the tokens of one level of a pattern: `X`, `_`
 abbrev pub pattern_layer : P.PatternKind-F PatternKind → List Place → List Placed
@@ -70,16 +105,35 @@ pattern_layer _ _ = []
 abbrev pub pattern_tokens : Node PatternKind → List Placed
 pattern_tokens p = pattern_layer (out-PatternKind p.kind) p.marks
 
--- the tokens of one level of an expression: `1`, `a`, `X`
-abbrev pub expr_layer : E.ExprKind-F ExprKind ItemKind QualifierKind AssocKind CatchKind ClauseKind → List Place → List Placed
+-- the text of an operator between two operands
+abbrev pub operator_text : BinaryOp → Option (List ℕ)
+operator_text Add = Some (codes "+")
+operator_text Sub = Some (codes "-")
+operator_text Mul = Some (codes "*")
+operator_text _ = None
+
+-- two operands with an operator between them
+abbrev pub operation_tokens : Option (List ℕ) → List Placed → Place → List Placed → List Placed
+operation_tokens None left m right = []
+operation_tokens (Some text) left m right = left ++ mark text m ∷ right
+
+-- the tokens of one level of an expression: `1`, `a`, `X`, `(E)`, `E + E`, `f(E, ..)`
+abbrev pub expr_layer : E.ExprKind-F Shown (Unit {0}) (Unit {0}) (Unit {0}) (Unit {0}) (Unit {0}) → Shown
 expr_layer (E.Int n) (p ∷ []) = at (T.Int n) p ∷ []
 expr_layer (E.Atom a) (p ∷ []) = atom a p ∷ []
 expr_layer (E.Var x) (p ∷ []) = at (T.Var x) p ∷ []
+expr_layer (E.Paren e) (o ∷ c ∷ []) = mark (codes "(") o ∷ (shown e ++ mark (codes ")") c ∷ [])
+expr_layer (E.Binary op a b) (m ∷ []) = operation_tokens (operator_text op) (shown a) m (shown b)
+expr_layer (E.Call None name args) (n ∷ o ∷ ms) = atom name n ∷ mark (codes "(") o ∷ arguments_tokens (map shown args) ms
 expr_layer _ _ = []
+
+-- the tokens of what stands in an expression's node
+unfoldable pub expr_shown : ExprKind → Shown
+expr_shown e = fold-ExprKind Shown (Unit {0}) (Unit {0}) (Unit {0}) (Unit {0}) (Unit {0}) expr_layer (λ i. tt) (λ q. tt) (λ a. tt) (λ c. tt) (λ c. tt) e
 
 -- the tokens of an expression
 abbrev pub expr_tokens : Node ExprKind → List Placed
-expr_tokens e = expr_layer (out-ExprKind e.kind) e.marks
+expr_tokens e = expr_shown e.kind e.marks
 
 -- the tokens of one level of an element of a body: those of the expression
 abbrev pub item_layer : E.ItemKind-F ExprKind ItemKind QualifierKind AssocKind CatchKind ClauseKind → List Place → List Placed
@@ -151,118 +205,3 @@ module_layer name forms _ = []
 -- the tokens of a module
 unfoldable pub tokens_of : Module → List Placed
 tokens_of m = module_layer m.name m.forms m.marks
-
--- ---- well-formed trees: each node has the parts and the number of marks of a production of the grammar, and the place of its first token
-
--- one level of a type: `a`, `integer()`
-abbrev pub is_type_layer : Y.TypeKind-F TypeKind MapPart → Place → List Place → Type 0
-is_type_layer (Y.Atom a) p (q ∷ []) = p ≡ q
-is_type_layer (Y.Use None name []) p (q ∷ r ∷ s ∷ []) = p ≡ q
-is_type_layer _ p ms = ⊥
-
--- a type of this part
-abbrev pub IsType : Node TypeKind → Type 0
-IsType t = is_type_layer (out-TypeKind t.kind) t.place t.marks
-
--- one level of a pattern: `X`, `_`
-abbrev pub is_pattern_layer : P.PatternKind-F PatternKind → Place → List Place → Type 0
-is_pattern_layer (P.Var x) p (q ∷ []) = p ≡ q
-is_pattern_layer _ p ms = ⊥
-
--- a pattern of this part
-abbrev pub IsPattern : Node PatternKind → Type 0
-IsPattern p = is_pattern_layer (out-PatternKind p.kind) p.place p.marks
-
--- one level of an expression: `1`, `a`, `X`
-abbrev pub is_expr_layer : E.ExprKind-F ExprKind ItemKind QualifierKind AssocKind CatchKind ClauseKind → Place → List Place → Type 0
-is_expr_layer (E.Int n) p (q ∷ []) = p ≡ q
-is_expr_layer (E.Atom a) p (q ∷ []) = p ≡ q
-is_expr_layer (E.Var x) p (q ∷ []) = p ≡ q
-is_expr_layer _ p ms = ⊥
-
--- an expression of this part
-abbrev pub IsExpr : Node ExprKind → Type 0
-IsExpr e = is_expr_layer (out-ExprKind e.kind) e.place e.marks
-
--- one level of an element of a body: an expression, at its place
-abbrev pub is_item_layer : E.ItemKind-F ExprKind ItemKind QualifierKind AssocKind CatchKind ClauseKind → Place → List Place → Type 0
-is_item_layer (E.Value e) p [] = (p ≡ e.place) × IsExpr e
-is_item_layer _ p ms = ⊥
-
--- an element of a body
-abbrev pub IsItem : Node ItemKind → Type 0
-IsItem i = is_item_layer (out-ItemKind i.kind) i.place i.marks
-
--- a body of one element
-abbrev pub IsBody : List (Node ItemKind) → Type 0
-IsBody (i ∷ []) = IsItem i
-IsBody _ = ⊥
-
--- a function, a spec and a fun have at most 255 parameters
-abbrev pub IsArity : ℕ → Type 0
-IsArity n = n ≤ 255
-
--- the marks behind an opening parenthesis: a comma between two of so many parameters, a closing parenthesis and an arrow
-abbrev pub AreParamMarks : ℕ → List Place → Type 0
-AreParamMarks zero (c ∷ a ∷ []) = Unit {0}
-AreParamMarks (suc zero) (c ∷ a ∷ []) = Unit {0}
-AreParamMarks (suc (suc n)) (m ∷ ms) = AreParamMarks (suc n) ms
-AreParamMarks _ _ = ⊥
-
--- one level of a function's clause: `name(P, ..) -> E`
-abbrev pub is_clause_layer : E.ClauseKind-F ExprKind ItemKind QualifierKind AssocKind CatchKind ClauseKind → Place → List Place → Type 0
-is_clause_layer c p (n ∷ o ∷ ms) = (p ≡ n) × (c.guard ≡ None) × Every IsPattern c.patterns × IsArity (length c.patterns) × AreParamMarks (length c.patterns) ms × IsBody c.body
-is_clause_layer c p _ = ⊥
-
--- a clause without a guard
-abbrev pub IsClause : Node ClauseKind → Type 0
-IsClause c = is_clause_layer (out-ClauseKind c.kind) c.place c.marks
-
--- the clauses of a function: `name(P, ..) -> E.`
-abbrev pub is_function_layer : List (Node ClauseKind) → Place → List Place → Type 0
-is_function_layer (c ∷ []) p (d ∷ []) = (p ≡ c.place) × IsClause c
-is_function_layer _ p _ = ⊥
-
--- a function of one clause
-abbrev pub IsFunction : Function → Type 0
-IsFunction f = is_function_layer f.clauses f.place f.marks
-
--- one level of a spec's clause: `(T, ..) -> T`
-abbrev pub is_spec_clause_layer : SpecClauseKind → Place → List Place → Type 0
-is_spec_clause_layer c p (o ∷ ms) = (p ≡ o) × Every IsType c.params × IsArity (length c.params) × AreParamMarks (length c.params) ms × IsType c.result × (c.bounds ≡ [])
-is_spec_clause_layer c p _ = ⊥
-
--- a clause without bounds
-abbrev pub IsSpecClause : Node SpecClauseKind → Type 0
-IsSpecClause c = is_spec_clause_layer c.kind c.place c.marks
-
--- the clauses of a spec: `-spec name(T, ..) -> T.`
-abbrev pub is_spec_layer : List (Node SpecClauseKind) → Place → List Place → Type 0
-is_spec_layer (c ∷ []) p (h ∷ s ∷ n ∷ d ∷ []) = (p ≡ h) × IsSpecClause c
-is_spec_layer _ p _ = ⊥
-
--- a spec of one clause
-abbrev pub IsSpec : Node SpecKind → Type 0
-IsSpec s = is_spec_layer s.kind.clauses s.place s.marks
-
--- a form of this part
-abbrev pub IsForm : TreeForm → Type 0
-IsForm (F.Spec s) = IsSpec s
-IsForm (F.Function f) = IsFunction f
-IsForm _ = ⊥
-
--- the forms of a module, behind `-module(name).`
-abbrev pub is_module_layer : List TreeForm → List Place → Type 0
-is_module_layer forms (h ∷ m ∷ o ∷ n ∷ c ∷ d ∷ e ∷ []) = Every IsForm forms
-is_module_layer forms _ = ⊥
-
--- a well-formed module
-unfoldable pub IsWellFormed : Module → Type 0
-IsWellFormed m = is_module_layer m.forms m.marks
-
--- ---- bytes and modules
-
--- the bytes spell the tokens of the module, and it is well formed
-pub record SpellsModule (bytes : List ℕ) (m : Module) : Type 0 where
-  pub tokens : SpellsTokens bytes (tokens_of m)
-  pub well_formed : IsWellFormed m

@@ -2,7 +2,7 @@
 
 ghost use Rattle.std.specs.Prelude.{List, codes};
 ghost use Rattle.erl_tree.specs.Lexis.{SpellsTokens};
-ghost use Rattle.erl_tree.specs.Spelling.{SpellsModule};
+ghost use Rattle.erl_tree.specs.Grammar.{SpellsModule};
 ghost use Rattle.erl_tree.specs.declared.token.Placed.{Placed as Entry};
 ghost use Rattle.erl_tree.specs.SmallText.{small_text, small_module};
 
