@@ -9,3 +9,4 @@ pub mod TextExamples
 pub mod Equations
 pub mod SpentSteps
 pub mod MembershipExamples
+pub mod TreeLaws
