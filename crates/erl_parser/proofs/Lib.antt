@@ -8,5 +8,6 @@ pub mod BodyLaws
 pub mod ParameterLaws
 pub mod FormLaws
 pub mod ModuleLaws
+pub mod Depths
 pub mod LoopLaws
 pub mod TextLaws

@@ -1,13 +1,18 @@
 -- Going on with what was read gives what reading gives: the steps of the loops over lists and over forms.
-use Rattle.std.proofs.Common.{◌≡◌, ℕ, zero, suc, ◌+◌, ◌≤◌, ◌<◌, List, [], ◌∷◌, ◌++◌, length, Option, Some, None, refl, sym, ◌∙◌, append_assoc, arith}
+use Rattle.std.proofs.Common.{◌≡◌, ℕ, zero, suc, ◌+◌, ◌≤◌, ◌<◌, List, [], ◌∷◌, ◌++◌, length, Option, Some, None, refl, sym, ◌∙◌, append_assoc, le_refl, arith}
 use Rattle.std.specs.Prelude.{codes}
 use Rattle.std.proofs.lemmas.List.{append-nil}
 use Rattle.erl_tree.specs.declared.token.Place.{Place}
 use Rattle.erl_tree.specs.declared.token.Placed.{Placed}
+use Rattle.erl_tree.specs.declared.token.Node.{Node}
+use Rattle.erl_tree.specs.declared.expr.BinaryOp.{BinaryOp}
+use Rattle.erl_tree.specs.declared.expr.ExprKind.{ExprKind}
+use Rattle.erl_tree.specs.declared.expr.ExprKind.TheVariants as E
+use Rattle.erl_tree.specs.Grammar.{node}
 use Rattle.erl_parser.specs.declared.fault.FirstFault.{FirstFault}
 use Rattle.erl_parser.specs.declared.fault.FirstFault.TheVariants as faults
 use Rattle.erl_tree.specs.declared.form.TreeForm.{TreeForm}
-use Rattle.erl_parser.specs.Reading.{◌>>=◌, Fails, read_end, read_form, read_forms, Reads, Listed, listing, before, with_front, read_mark, read_items}
+use Rattle.erl_parser.specs.Reading.{◌>>=◌, Fails, read_end, read_form, read_forms, Reads, Listed, listing, before, with_front, read_mark, read_items, read_list, read_close, expr_within, read_chain, read_chained}
 
 -- ---- lists
 
@@ -22,6 +27,9 @@ module _ {A : Type 0} (inner : Reads A) (closing : Reads (List Place)) where
 
   pub listing_begins : (ts : List Placed) → Listing inner closing [] [] ts (read_items inner closing (suc (length ts)) ts)
   listing_begins ts = (suc (length ts), omega arith, no_front (read_items inner closing (suc (length ts)) ts))
+
+  pub list_begins : (ts : List Placed) → read_mark (codes ")") ts ≡ None → Listing inner closing [] [] ts (read_list inner closing ts)
+  list_begins ts e = (suc (length ts), omega arith, rw e (no_front (read_items inner closing (suc (length ts)) ts)))
 
   regroup : (xs : List A) (ms : List Place) (x : A) (m : Place) (read : Option (Listed A)) → with_front xs ms (read >>= λ l. Some (before x m l)) ≡ with_front (xs ++ x ∷ []) (ms ++ m ∷ []) read
   regroup xs ms x m (Some l) = rw (append_assoc xs (x ∷ []) l.items, append_assoc ms (m ∷ []) l.marks) refl
@@ -51,6 +59,63 @@ module _ {A : Type 0} (inner : Reads A) (closing : Reads (List Place)) where
   listing_fails xs ms rest total faults.NoMemory g h = tt
   listing_fails xs ms rest total faults.NotBuilt (zero, l, g) h = absurd (omega arith)
   listing_fails xs ms rest total faults.NotBuilt (suc k, l, g) h = sym (rw h at g)
+
+-- ---- the closing parenthesis of arguments
+
+pub close_reads : (ts : List Placed) (c : Place) (more : List Placed) → read_mark (codes ")") ts ≡ Some (c, more) → read_close ts ≡ Some (c ∷ [], more)
+unfolding read_close
+close_reads ts c more e = rw e refl
+
+pub close_fails : (ts : List Placed) (f : FirstFault) → Fails f (read_mark (codes ")") ts) → Fails f (read_close ts)
+unfolding read_close
+close_fails ts faults.NoMemory e = tt
+close_fails ts faults.NotBuilt e = rw e refl
+
+pub no_arguments : {A : Type 0} (inner : Reads A) (ts : List Placed) (c : Place) (more : List Placed) → read_mark (codes ")") ts ≡ Some (c, more) → read_list inner read_close ts ≡ Some (listing [] (c ∷ []) more)
+unfolding read_close
+no_arguments inner ts c more e = rw e refl
+
+-- ---- operators
+
+-- going on with the operand that was read gives what reading gives
+abbrev pub Going : Reads (BinaryOp × Place) → Reads (Node ExprKind) → ℕ → Node ExprKind → List Placed → Option (Node ExprKind × List Placed) → Type 0
+Going operator right limit left rest total = (k : ℕ) × (length rest ≤ k) × (read_chain operator right limit k left rest ≡ total)
+
+module _ (operator : Reads (BinaryOp × Place)) (right : Reads (Node ExprKind)) (limit : ℕ) where
+  pub going_begins : (first : Reads (Node ExprKind)) (ts : List Placed) (e : Node ExprKind) (rest : List Placed) → first ts ≡ Some (e, rest) → Going operator right limit e rest (read_chained operator first right limit ts)
+  unfolding read_chained
+  going_begins first ts e rest h = (length rest, le_refl _, rw h refl)
+
+  pub chained_fails : (first : Reads (Node ExprKind)) (ts : List Placed) (f : FirstFault) → Fails f (first ts) → Fails f (read_chained operator first right limit ts)
+  unfolding read_chained
+  chained_fails first ts faults.NoMemory h = tt
+  chained_fails first ts faults.NotBuilt h = rw h refl
+
+  pub going_step : (left : Node ExprKind) (rest : List Placed) (total : Option (Node ExprKind × List Placed)) (op : BinaryOp) (m : Place) (more : List Placed) (e : Node ExprKind) (behind : List Placed) (x : Node ExprKind)
+      → Going operator right limit left rest total → operator rest ≡ Some ((op, m), more) → length more < length rest → right more ≡ Some (e, behind) → length behind < length more → expr_within limit (node left.place (m ∷ []) (E.Binary op left e)) ≡ Some x
+      → Going operator right limit x behind total
+  unfolding read_chain
+  going_step left rest total op m more e behind x (zero, l, g) o s r t w = absurd (omega arith)
+  going_step left rest total op m more e behind x (suc k, l, g) o s r t w = (k, omega arith, rw (o, r, w) at g)
+
+  pub going_ends : (left : Node ExprKind) (rest : List Placed) (total : Option (Node ExprKind × List Placed)) → Going operator right limit left rest total → operator rest ≡ None → total ≡ Some (left, rest)
+  unfolding read_chain
+  going_ends left rest total (zero, l, g) o = sym g
+  going_ends left rest total (suc k, l, g) o = sym (rw o at g)
+
+  pub going_fails : (left : Node ExprKind) (rest : List Placed) (total : Option (Node ExprKind × List Placed)) (op : BinaryOp) (m : Place) (more : List Placed) (f : FirstFault)
+      → Going operator right limit left rest total → operator rest ≡ Some ((op, m), more) → length more < length rest → Fails f (right more) → Fails f total
+  unfolding read_chain
+  going_fails left rest total op m more faults.NoMemory g o s r = tt
+  going_fails left rest total op m more faults.NotBuilt (zero, l, g) o s r = absurd (omega arith)
+  going_fails left rest total op m more faults.NotBuilt (suc k, l, g) o s r = sym (rw (o, r) at g)
+
+  pub going_too_deep : (left : Node ExprKind) (rest : List Placed) (total : Option (Node ExprKind × List Placed)) (op : BinaryOp) (m : Place) (more : List Placed) (e : Node ExprKind) (behind : List Placed) (f : FirstFault)
+      → Going operator right limit left rest total → operator rest ≡ Some ((op, m), more) → length more < length rest → right more ≡ Some (e, behind) → Fails f (expr_within limit (node left.place (m ∷ []) (E.Binary op left e))) → Fails f total
+  unfolding read_chain
+  going_too_deep left rest total op m more e behind faults.NoMemory g o s r w = tt
+  going_too_deep left rest total op m more e behind faults.NotBuilt (zero, l, g) o s r w = absurd (omega arith)
+  going_too_deep left rest total op m more e behind faults.NotBuilt (suc k, l, g) o s r w = sym (rw (o, r, w) at g)
 
 -- ---- forms
 
