@@ -36,6 +36,18 @@ fn literal(alloc: Global, tokens: &[Placed]) -> Result<(Literal, &[Placed]), Fir
     }
 }
 
+/// What stands in a literal's node, as what stands in a type's.
+fn type_kind(kind: LiteralKind) -> TypeKind
+    ensures { result ≡ reading.literal_type kind }
+{
+    match kind {
+        LiteralKind::Atom(name) => TypeKind::Atom(name),
+        LiteralKind::Int(value) => TypeKind::Int(value),
+        LiteralKind::NegInt(value) => TypeKind::NegInt(value),
+        LiteralKind::Char(code) => TypeKind::Char(code),
+    }
+}
+
 /// A literal as a type.
 #[tactic(auto, using(crate::proofs::Depths::literal_type_depth, std::proofs::lemmas::Grind::common_steps))]
 fn literal_type(alloc: Global, literal: Literal) -> Result<TypeExpr, NoMemory>
@@ -43,12 +55,7 @@ fn literal_type(alloc: Global, literal: Literal) -> Result<TypeExpr, NoMemory>
     ensures leaf { IfOk result (λ x. type_depth x ≡ 1) }
 {
     let place = literal.place;
-    let kind = match literal.kind.into_inner() {
-        LiteralKind::Atom(name) => TypeKind::Atom(name),
-        LiteralKind::Int(value) => TypeKind::Int(value),
-        LiteralKind::NegInt(value) => TypeKind::NegInt(value),
-        LiteralKind::Char(code) => TypeKind::Char(code),
-    };
+    let kind = type_kind(literal.kind.into_inner());
     node(alloc, place, literal.marks, kind)
 }
 
