@@ -24,7 +24,7 @@ abbrev safe_text : (text : List ℕ) (m : Module) → IsReadAs text m → IsSafe
 safe_text text m read safe = record { tree = m; spelled = read.spelled; only = read.only; readable = read.flat.readable; safe = safe }
 
 text_accepted : (text : List ℕ) (m : Module) (name : List ℕ) (functions clauses : ℕ) → IsReadAs text m → IsAcceptedModule m name functions clauses → IsAcceptedText text name functions clauses
-text_accepted text m name functions clauses read accepted = record { safe = safe_text text m read accepted.safe; summary = accepted.summary }
+text_accepted text m name functions clauses read accepted = record { safe = safe_text text m read accepted.safe; flat = read.flat; summary = accepted.summary }
 
 -- a text whose module is accepted
 pub accepted_text : (text : List ℕ) (m : Module) (result : Result Accepted Refused) → IsReadAs text m

@@ -10,10 +10,9 @@ use Rattle.erl_tree.specs.declared.form.SpecKind.{SpecKind}
 use Rattle.erl_tree.specs.declared.form.Module.{Module}
 use Rattle.erl_tree.specs.Functions.{functions_of, clauses_arity}
 use Rattle.erl_tree.specs.Specs.{specs_of, specs_in}
-use Rattle.erl_tree.specs.Spelling.{SpellsModule}
+use Rattle.erl_tree.specs.Grammar.{SpellsModule}
 use Rattle.erl_tree.specs.Readable.{IsFlatModule}
 use Rattle.erl_tree.specs.Safety.{IsSafe, IsSafeText}
-use Rattle.erl_parser.specs.Answers.{HasIntegersInLimit}
 use Rattle.cert_checker.specs.declared.refusal.Shown.{Shown}
 use Rattle.cert_checker.specs.declared.refusal.FirstRefusal.{FirstRefusal}
 use Rattle.cert_checker.specs.declared.refusal.FirstRefusal.TheVariants.{NoMemory as NoMemoryToCheck, Failed as FailedConstraint}
@@ -33,9 +32,9 @@ pub record IsReadAs (text : List ℕ) (m : Module) : Type 0 where
   pub only : (other : Module) → SpellsModule text other → other ≡ m
   pub flat : IsFlatModule m
 
--- the bytes spell no flat module all of whose integers are within the limit
+-- the bytes spell no flat module
 abbrev pub IsNotRead : List ℕ → Type 0
-IsNotRead text = (m : Module) → SpellsModule text m → IsFlatModule m → HasIntegersInLimit m → ⊥
+IsNotRead text = (m : Module) → SpellsModule text m → IsFlatModule m → ⊥
 
 -- ---- modules that are accepted
 
@@ -63,9 +62,10 @@ pub record IsAcceptedModule (m : Module) (name : List ℕ) (functions clauses : 
   pub safe : IsSafe m (specs_of m) given_definitions
   pub summary : IsSummary m name functions clauses
 
--- the text is a safe text, and this is its module's summary
+-- the text is a safe text, its module is flat, and this is the module's summary
 pub record IsAcceptedText (text name : List ℕ) (functions clauses : ℕ) : Type 0 where
   pub safe : IsSafeText text
+  pub flat : IsFlatModule safe.tree
   pub summary : IsSummary safe.tree name functions clauses
 
 -- ---- modules that are refused
