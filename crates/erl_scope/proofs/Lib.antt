@@ -4,5 +4,6 @@ pub mod Variables
 pub mod Everywhere
 pub mod OneLevel
 pub mod SpecTerms
+pub mod KnownTypes
 pub mod FunctionNames
 pub mod Readability

@@ -5,6 +5,7 @@ use Rattle.type_terms.specs.declared.term.Term.{Term}
 use Rattle.erl_tree.specs.declared.token.Node.{Node}
 use Rattle.erl_tree.specs.declared.pattern.PatternKind.{PatternKind, out-PatternKind}
 use Rattle.erl_tree.specs.declared.pattern.LiteralKind.{LiteralKind}
+use Rattle.erl_tree.specs.declared.type_expr.TypeKind.{TypeKind}
 use Rattle.erl_tree.specs.declared.expr.ExprKind.{ExprKind}
 use Rattle.erl_tree.specs.declared.expr.ItemKind.{ItemKind, out-ItemKind}
 use Rattle.erl_tree.specs.declared.expr.ClauseKind.{ClauseKind}
@@ -13,7 +14,7 @@ use Rattle.erl_tree.specs.declared.form.TreeForm.{TreeForm}
 use Rattle.erl_tree.specs.declared.form.TreeForm.TheVariants as F
 use Rattle.erl_tree.specs.Lists.{Every, Among, AreDistinct}
 use Rattle.erl_tree.specs.Functions.{FunctionId, function_id}
-use Rattle.erl_tree.specs.Specs.{and_then, end_of, range, function_spec, specified_id}
+use Rattle.erl_tree.specs.Specs.{and_then, end_of, range, built_in_type, function_spec, specified_id}
 use Rattle.erl_tree.specs.Readable.{bound_by, bound_layer, used_in, used_item_layer, IsScopedClause, called_in, called_item_layer, FunctionCallsOnly, HasDistinctHead, is_built_in}
 use Rattle.erl_scope.specs.declared.function_names.Role.{Role}
 use Rattle.erl_scope.specs.declared.function_names.Role.TheVariants.{Definition, Specification}
@@ -43,6 +44,11 @@ operations = codes "hd" ∷ codes "tl" ∷ codes "length" ∷ codes "tuple_size"
 
 abbrev pub exceptions : List Name
 exceptions = codes "error" ∷ codes "throw" ∷ codes "exit" ∷ []
+
+-- the term of a type with a prefix, a name and arguments
+abbrev pub use_term : Option Name → Name → List (Node TypeKind) → Option Term
+use_term None name [] = built_in_type name
+use_term _ name args = None
 
 -- the term of a range with these ends
 abbrev pub range_term : LiteralKind → LiteralKind → Option Term

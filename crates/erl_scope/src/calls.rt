@@ -25,6 +25,7 @@ fn is_defined(
 
 /// Whether each function that an expression calls is defined.
 #[cycle(called)]
+#[tactic(auto, using(crate::proofs::OneLevel::called_laws, std::proofs::lemmas::Grind::common_steps))]
 fn calls_only_defined(
     alloc: Global,
     table: &FunctionTable,

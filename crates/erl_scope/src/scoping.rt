@@ -69,6 +69,7 @@ fn has_distinct_names(patterns: &[Pattern]) -> bool
 
 /// Whether the variables of an expression are bound by the patterns.
 #[cycle(expressions)]
+#[tactic(auto, using(crate::proofs::OneLevel::used_laws, std::proofs::lemmas::Grind::common_steps))]
 fn is_scoped_expression(expression: &Expr, patterns: &[Pattern]) -> bool
     ensures { IsTrue result ↔ Every (λ x. Among x (bound_by patterns.now)) (used_in expression.now.kind) }
 {
