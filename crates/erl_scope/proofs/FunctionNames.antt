@@ -51,6 +51,10 @@ named_if_found es id (Some n) b named is e h = ((λ _. subst (Every (λ i. Among
 named_if_found es id None b named is e h =
     ((λ t. absurd (true≢false (sym t ∙ e))), λ g. absurd (h ((subst (Every (λ i. Among i (ids es))) is g).0)))
 
+pub defined_if_found : (es : List Entry) (id : FunctionId) (o : Option ℕ) (b : Bool) → b ≡ is_some o → IsFound es id o → IsTrue b ↔ Among id (ids es)
+defined_if_found es id (Some n) b e h = ((λ _. Among-ids id n es h), λ _. e)
+defined_if_found es id None b e h = ((λ t. absurd (true≢false (sym t ∙ e))), λ g. absurd (h g))
+
 -- ---- the table of the functions that forms name
 
 module _ (role : Role) where

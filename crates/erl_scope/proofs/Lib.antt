@@ -3,6 +3,9 @@ pub mod BuiltIns
 pub mod Variables
 pub mod Everywhere
 pub mod OneLevel
+pub mod Parts
+pub mod ScopedExpressions
+pub mod DefinedCalls
 pub mod SpecTerms
 pub mod KnownTypes
 pub mod FunctionNames

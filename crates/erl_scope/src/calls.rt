@@ -29,24 +29,25 @@ fn is_defined(
 fn calls_only_defined(
     alloc: Global,
     table: &FunctionTable,
-    expression: &Expr,
+    kind: &ExprKind,
 ) -> Result<bool, NoMemory>
-    ensures { IfOk result (λ answer. IsTrue answer ↔ Every (λ id. Among id (ids table.now)) (called_in expression.now.kind)) }
+    ensures { IfOk result (λ answer. IsTrue answer ↔ Every (λ id. Among id (ids table.now)) (called_in kind.now)) }
 {
-    match expression.kind.get() {
-        ExprKind::Paren(inner) => calls_only_defined(alloc, table, inner),
+    match kind {
+        ExprKind::Paren(inner) => calls_only_defined(alloc, table, inner.kind.get()),
         ExprKind::Binary(_, left, right) => {
-            if !calls_only_defined(alloc, table, left)? {
+            let left_defined = calls_only_defined(alloc, table, left.kind.get())?;
+            if !left_defined {
                 return Ok(false);
             }
-            calls_only_defined(alloc, table, right)
+            calls_only_defined(alloc, table, right.kind.get())
         }
-        ExprKind::Call {
-            prefix: None,
-            name,
-            args,
-        } => {
-            if !is_defined(alloc, table, name, args.len())? {
+        ExprKind::Call { prefix, name, args } => {
+            if prefix.is_some() {
+                return Ok(true);
+            }
+            let defined = is_defined(alloc, table, name, args.len())?;
+            if !defined {
                 return Ok(false);
             }
             all_call_only_defined(alloc, table, args.as_slice())
@@ -64,7 +65,7 @@ fn all_call_only_defined(
     ensures { IfOk result (λ answer. IsTrue answer ↔ Every (ExpressionCallsOnly (ids table.now)) expressions.now) }
 {
     for expression in expressions {
-        let right = calls_only_defined(alloc, table, expression)?;
+        let right = calls_only_defined(alloc, table, expression.kind.get())?;
         if !right {
             return Ok(false);
         }
@@ -76,7 +77,7 @@ fn is_right_item(alloc: Global, table: &FunctionTable, item: &Item) -> Result<bo
     ensures { IfOk result (λ answer. IsTrue answer ↔ ItemCallsOnly (ids table.now) item.now) }
 {
     match item.kind.get() {
-        ItemKind::Value(value) => calls_only_defined(alloc, table, value),
+        ItemKind::Value(value) => calls_only_defined(alloc, table, value.kind.get()),
         _ => Ok(true),
     }
 }

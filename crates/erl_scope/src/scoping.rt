@@ -70,14 +70,14 @@ fn has_distinct_names(patterns: &[Pattern]) -> bool
 /// Whether the variables of an expression are bound by the patterns.
 #[cycle(expressions)]
 #[tactic(auto, using(crate::proofs::OneLevel::used_laws, std::proofs::lemmas::Grind::common_steps))]
-fn is_scoped_expression(expression: &Expr, patterns: &[Pattern]) -> bool
-    ensures { IsTrue result ↔ Every (λ x. Among x (bound_by patterns.now)) (used_in expression.now.kind) }
+fn is_scoped_kind(kind: &ExprKind, patterns: &[Pattern]) -> bool
+    ensures { IsTrue result ↔ Every (λ x. Among x (bound_by patterns.now)) (used_in kind.now) }
 {
-    match expression.kind.get() {
+    match kind {
         ExprKind::Var(name) => is_bound(name, patterns),
-        ExprKind::Paren(inner) => is_scoped_expression(inner, patterns),
+        ExprKind::Paren(inner) => is_scoped_kind(inner.kind.get(), patterns),
         ExprKind::Binary(_, left, right) => {
-            is_scoped_expression(left, patterns) && is_scoped_expression(right, patterns)
+            is_scoped_kind(left.kind.get(), patterns) && is_scoped_kind(right.kind.get(), patterns)
         }
         ExprKind::Call { args, .. } => are_scoped_expressions(args.as_slice(), patterns),
         _ => true,
@@ -89,7 +89,7 @@ fn are_scoped_expressions(expressions: &[Expr], patterns: &[Pattern]) -> bool
     ensures { IsTrue result ↔ Every (IsScopedExpression patterns.now) expressions.now }
 {
     for expression in expressions {
-        if !is_scoped_expression(expression, patterns) {
+        if !is_scoped_kind(expression.kind.get(), patterns) {
             return false;
         }
     }
@@ -100,7 +100,7 @@ fn is_scoped_item(item: &Item, patterns: &[Pattern]) -> bool
     ensures { IsTrue result ↔ IsScopedItem patterns.now item.now }
 {
     match item.kind.get() {
-        ItemKind::Value(value) => is_scoped_expression(value, patterns),
+        ItemKind::Value(value) => is_scoped_kind(value.kind.get(), patterns),
         _ => true,
     }
 }
