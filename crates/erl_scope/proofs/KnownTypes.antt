@@ -1,5 +1,5 @@
 -- What the test of a type answers, by its form.
-use Rattle.std.proofs.Common.{◌≡◌, Bool, true, false, List, [], ◌∷◌, ◌↔◌, refl, sym, ap, ◌∙◌, subst, Option, Some, None, is_some, true≢false}
+use Rattle.std.proofs.Common.{◌≡◌, Bool, true, false, List, [], ◌∷◌, ◌↔◌, sym, ap, ◌∙◌, subst, Option}
 use Rattle.std.specs.Prelude.{IsSome, IsTrue}
 use Rattle.type_terms.specs.Keys.{Name}
 use Rattle.type_terms.specs.declared.term.Term.{Term, Or}

@@ -7,7 +7,7 @@ use Rattle.erl_tree.specs.declared.token.Node.{Node}
 use Rattle.erl_tree.specs.declared.type_expr.TypeKind.{TypeKind, out-TypeKind, map-TypeKind, fold_out-TypeKind}
 use Rattle.erl_tree.specs.declared.type_expr.TypeKind.TheOpen as Y
 use Rattle.erl_tree.specs.declared.type_expr.MapPart.{MapPart}
-use Rattle.erl_tree.specs.declared.expr.ExprKind.{ExprKind, out-ExprKind, map-ExprKind, fold-ExprKind, fold_out-ExprKind}
+use Rattle.erl_tree.specs.declared.expr.ExprKind.{ExprKind, out-ExprKind, map-ExprKind, fold_out-ExprKind}
 use Rattle.erl_tree.specs.declared.expr.ExprKind.TheOpen as E
 use Rattle.erl_tree.specs.declared.expr.ExprKind.TheShapes as S
 use Rattle.erl_tree.specs.declared.expr.ItemKind.{ItemKind}

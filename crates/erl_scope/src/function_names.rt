@@ -114,10 +114,12 @@ pub fn has_matching_names(alloc: Global, forms: &[TreeForm]) -> Result<bool, NoM
     let Some(specs) = table_of(alloc, forms, Role::Specification)? else {
         return Ok(false);
     };
-    if !are_named_in(alloc, &specs, forms, Role::Definition)? {
+    let specified = are_named_in(alloc, &specs, forms, Role::Definition)?;
+    if !specified {
         return Ok(false);
     }
-    if !are_named_in(alloc, &definitions, forms, Role::Specification)? {
+    let defined = are_named_in(alloc, &definitions, forms, Role::Specification)?;
+    if !defined {
         return Ok(false);
     }
     has_defined_calls(alloc, &definitions, forms)

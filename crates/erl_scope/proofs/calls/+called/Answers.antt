@@ -1,4 +1,4 @@
-use Rattle.std.proofs.Common.{◌≡◌, arith, ap, sym}
+use Rattle.std.proofs.Common.{arith, ap, sym}
 use Rattle.erl_tree.specs.Lists.{Among}
 use Rattle.erl_tree.specs.Readable.{called_in}
 use Rattle.function_table.specs.Table.{ids}

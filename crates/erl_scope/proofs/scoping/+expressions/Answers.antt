@@ -1,10 +1,10 @@
-use Rattle.std.proofs.Common.{◌≡◌, ◌↔◌, IsTrue, arith, ap, subst, sym}
-use Rattle.erl_tree.specs.Lists.{Every, Among}
+use Rattle.std.proofs.Common.{arith, ap, sym}
+use Rattle.erl_tree.specs.Lists.{Among}
 use Rattle.erl_tree.specs.Readable.{bound_by, used_in}
 use Rattle.erl_scope.specs.Names.{IsScopedExpression}
 use Rattle.erl_scope.proofs.ForEach.{left_first, left_next, unmet, met}
 use Rattle.erl_scope.proofs.Parts.{of_same}
-use Rattle.erl_scope.proofs.ScopedExpressions.{IsBound, scoped_variable, scoped_in_parens, scoped_operands, unscoped_operand, scoped_call}
+use Rattle.erl_scope.proofs.ScopedExpressions.{scoped_variable, scoped_in_parens, scoped_operands, unscoped_operand, scoped_call}
 use Rattle.erl_scope.proofs.scoping.+expressions.Goals as goal
 
 pub are_scoped_expressions-loop-expression-init : goal.are_scoped_expressions-loop-expression-init
