@@ -16,7 +16,7 @@ use Rattle.erl_tree.specs.Safety.{IsSafe, IsSafeText}
 use Rattle.cert_checker.specs.declared.refusal.Shown.{Shown}
 use Rattle.cert_checker.specs.declared.refusal.FirstRefusal.{FirstRefusal}
 use Rattle.cert_checker.specs.declared.refusal.FirstRefusal.TheVariants.{NoMemory as NoMemoryToCheck, Failed as FailedConstraint}
-use Rattle.cert_checker.specs.Failures.{ShowsFirstFailure}
+use Rattle.cert_checker.specs.Failures.{MeetsConstraints, ShowsFirstFailure}
 use Rattle.etylizer_program.specs.declared.check.Refused.{Refused}
 use Rattle.etylizer_program.specs.declared.check.Refused.TheVariants.{NoMemory as NoMemoryForText, TooLong as TooLongText, NotBuilt as NotBuiltText, Types}
 use Rattle.etylizer_program.specs.declared.report.Verdict.{Verdict}
@@ -57,15 +57,17 @@ pub record IsSummary (m : Module) (name : List ℕ) (functions clauses : ℕ) : 
   pub functions_counted : functions ≡ function_count m
   pub clauses_counted : clauses ≡ spec_clause_count m
 
--- the module is safe, and this is its summary
+-- the module's constraints hold, it is safe, and this is its summary
 pub record IsAcceptedModule (m : Module) (name : List ℕ) (functions clauses : ℕ) : Type 0 where
+  pub meets : MeetsConstraints m
   pub safe : IsSafe m (specs_of m) given_definitions
   pub summary : IsSummary m name functions clauses
 
--- the text is a safe text, its module is flat, and this is the module's summary
+-- the text is a safe text, its module is flat and its constraints hold, and this is the module's summary
 pub record IsAcceptedText (text name : List ℕ) (functions clauses : ℕ) : Type 0 where
   pub safe : IsSafeText text
   pub flat : IsFlatModule safe.tree
+  pub meets : MeetsConstraints safe.tree
   pub summary : IsSummary safe.tree name functions clauses
 
 -- ---- modules that are refused
