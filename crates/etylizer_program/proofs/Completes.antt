@@ -1,16 +1,20 @@
--- What the program answers of a text that the words name, unless the outside fails or memory runs out.
-use Rattle.std.proofs.Common.{◌≡◌, ◌≢◌, ◌∙◌, ◌⊎◌, ◌<◌, ◌≤◌, ℕ, suc, List, [], ◌∷◌, ◌++◌, length, codes, Option, Some, None, refl, ap, sym, subst, inl, inr, arith}
+-- What the program answers of a text, unless the outside fails or memory runs out.
+use Rattle.std.proofs.Common.{◌≡◌, ◌≢◌, ◌∙◌, ◌⊎◌, ◌<◌, ◌≤◌, ℕ, suc, List, [], ◌∷◌, ◌++◌, length, codes, Option, Some, None, Result, Ok, Err, IfOk, IfErr, IsErrOf, IsOk, refl, ap, sym, subst, inl, inr, arith}
 use Rattle.erl_tree.specs.Lists.{Every}
 use Rattle.erl_tree.specs.declared.form.Module.{Module}
-use Rattle.erl_tree.specs.Grammar.{SpellsModule}
-use Rattle.cert_checker.specs.Constraints.{Test, FindsFits, Holds, Constraint, owed_of}
+use Rattle.cert_checker.specs.Constraints.{Holds, Constraint, owed_of}
+use Rattle.etylizer_program.specs.declared.check.Accepted.{Accepted}
+use Rattle.etylizer_program.specs.declared.check.Refused.{Refused}
+use Rattle.etylizer_program.specs.declared.check.Refused.TheVariants as R
+use Rattle.cert_checker.specs.declared.refusal.FirstRefusal.TheVariants as F
 use Rattle.etylizer_program.specs.declared.report.Verdict.{Verdict}
 use Rattle.etylizer_program.specs.declared.report.Verdict.TheVariants as V
 use Rattle.etylizer_program.specs.Outside.{Holdings, Puts}
 use Rattle.etylizer_program.specs.Commands.{command_of}
 use Rattle.etylizer_program.specs.Report.{report_text}
-use Rattle.etylizer_program.specs.Check.{text_limit, IsNotRead, IsReadAs, IsFailedModule, IsTextVerdict}
-use Rattle.etylizer_program.specs.Tool.{IsCheckOf, IsVerdictUnder, Judges, NamesText, NamesNoModule, NamesRightModule, verdict_status}
+use Rattle.etylizer_program.specs.Check.{text_limit, IsNotRead, IsRightText, IsReadAs, IsAcceptedText, IsTextRefusal, IsTextVerdict}
+use Rattle.cert_checker.specs.Failures.{ShowsFirstFailure}
+use Rattle.etylizer_program.specs.Tool.{IsCheckOf, Judges, NamesText, NamesNoModule, NamesRightModule, verdict_status}
 
 -- ---- verdicts
 
@@ -19,21 +23,19 @@ last_of [] c after h = h.0
 last_of (b ∷ before) c after h = last_of before c after h.1
 
 -- a constraint that fails isn't among those that all hold
-no_failure : (m n : Module) (name function : List ℕ) (arity clause : ℕ) (place : _) (kind : _) (shown : _) (fits : Test) → FindsFits fits → Every Holds (owed_of fits m) → n ≡ m → IsFailedModule n name function arity clause place kind shown → ⊥
-no_failure m n name function arity clause place kind shown fits finds h same failed =
-    let first = failed.failed fits finds in
-    let all : Every Holds (owed_of fits n) = subst (λ (z : Module). Every Holds (owed_of fits z)) (sym same) h in
+no_failure : (text : List ℕ) (right : IsRightText text) (n : Module) (function : ℕ) (place : _) (kind : _) (shown : _) → IsReadAs text n → ShowsFirstFailure n (F.Failed function place kind shown) → ⊥
+no_failure text right n function place kind shown read shows =
+    let first = shows right.fits right.finds_fits in
+    let all : Every Holds (owed_of right.fits n) = subst (λ (z : Module). Every Holds (owed_of right.fits z)) (read.only right.tree right.spelled) right.meets in
     first.0.fails (last_of first.0.before _ first.0.after (subst (λ (cs : List Constraint). Every Holds cs) first.0.listed all))
 
 -- the verdict on a flat module whose constraints hold
-accepted_verdict : (text : List ℕ) (m : Module) (fits : Test) (verdict : Verdict) → length text ≤ text_limit → SpellsModule text m → FindsFits fits → Every Holds (owed_of fits m)
-    → (IsNotRead text → ⊥) → IsTextVerdict text verdict → verdict_status verdict ≡ 0
-accepted_verdict text m fits (V.Accepted name functions clauses) short spelled finds h read is = refl
-accepted_verdict text m fits (V.Failed name function arity clause place kind shown) short spelled finds h read is =
-    absurd (no_failure m is.0 name function arity clause place kind shown fits finds h (sym (is.1.only m spelled)) is.2)
-accepted_verdict text m fits V.TooLong short spelled finds h read is = absurd (omega arith)
-accepted_verdict text m fits V.NotBuilt short spelled finds h read is = absurd (read is)
-accepted_verdict text m fits V.Usage short spelled finds h read is = absurd is
+accepted_verdict : (text : List ℕ) (right : IsRightText text) (verdict : Verdict) → length text ≤ text_limit → IsTextVerdict text verdict → verdict_status verdict ≡ 0
+accepted_verdict text right (V.Accepted name functions clauses) short is = refl
+accepted_verdict text right (V.Failed name function arity clause place kind shown) short is = absurd (no_failure text right is.0 is.2.number place kind shown is.1 is.2.failed)
+accepted_verdict text right V.TooLong short is = absurd (omega arith)
+accepted_verdict text right V.NotBuilt short is = absurd (is right.tree right.spelled right.flat)
+accepted_verdict text right V.Usage short is = absurd is
 
 -- the verdict on a text that spells no flat module
 not_read_verdict : (text : List ℕ) (verdict : Verdict) → length text ≤ text_limit → IsNotRead text → IsTextVerdict text verdict → verdict ≡ V.NotBuilt
@@ -42,6 +44,23 @@ not_read_verdict text (V.Failed name function arity clause place kind shown) sho
 not_read_verdict text V.TooLong short not_read is = absurd (omega arith)
 not_read_verdict text V.NotBuilt short not_read is = refl
 not_read_verdict text V.Usage short not_read is = absurd is
+
+-- ---- answers of the check of a text
+
+pub right_is_accepted : (text : List ℕ) (result : Result Accepted Refused) → IfErr result (IsTextRefusal text) → IsRightText text → length text ≤ text_limit → IsOk result ⊎ IsErrOf result R.NoMemory
+right_is_accepted text (Ok a) is right short = inl refl
+right_is_accepted text (Err R.NoMemory) is right short = inr refl
+right_is_accepted text (Err R.TooLong) is right short = absurd (omega arith)
+right_is_accepted text (Err R.NotBuilt) is right short = absurd (is right.tree right.spelled right.flat)
+right_is_accepted text (Err (R.Types F.NoMemory)) is right short = absurd is.2
+right_is_accepted text (Err (R.Types (F.Failed function place kind shown))) is right short = absurd (no_failure text right is.0 function place kind shown is.1 is.2)
+
+pub unread_is_refused : (text : List ℕ) (result : Result Accepted Refused) → IfOk result (λ a. IsAcceptedText text a.name a.functions a.clauses) → IfErr result (IsTextRefusal text) → IsNotRead text → length text ≤ text_limit → IsErrOf result R.NotBuilt ⊎ IsErrOf result R.NoMemory
+unread_is_refused text (Ok a) accepted is not_read short = absurd (not_read accepted.safe.tree accepted.safe.spelled accepted.flat)
+unread_is_refused text (Err R.NoMemory) accepted is not_read short = inr refl
+unread_is_refused text (Err R.TooLong) accepted is not_read short = absurd (omega arith)
+unread_is_refused text (Err R.NotBuilt) accepted is not_read short = inl refl
+unread_is_refused text (Err (R.Types refusal)) accepted is not_read short = absurd (not_read is.0 is.1.spelled is.1.flat)
 
 -- ---- what was judged is what is named
 
@@ -93,8 +112,7 @@ pub completes : (status : ℕ) (words : List (List ℕ)) (held : Option Holdings
 completes status words held before after right small read write usage judges =
     few status small read write usage (λ below not_two.
       let j : Judges status words held before after = judges below not_two in
-      sym j.judged.status_is ∙ accepted_verdict right.text right.tree right.fits j.judged.verdict right.named.short right.spelled right.finds_fits right.meets
-        (λ not_read. not_read right.tree right.spelled right.flat) (judged_text status words held before after right.text right.named j))
+      sym j.judged.status_is ∙ accepted_verdict right.text right.right j.judged.verdict right.named.short (judged_text status words held before after right.text right.named j))
 
 -- a text that spells no flat module isn't built yet
 pub refuses : (status : ℕ) (words : List (List ℕ)) (held : Option Holdings) (before after : Option (List ℕ)) → NamesNoModule words held → status ≤ 6

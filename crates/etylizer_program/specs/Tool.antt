@@ -1,19 +1,15 @@
 -- What the program claims: of a text that it accepts, and of its output at each status.
 use Rattle.std.specs.Prelude.{◌≡◌, ◌≢◌, ◌⊎◌, ◌≤◌, ℕ, List, [], ◌∷◌, length, Option, Some, None, codes}
 use Rattle.std.specs.Option.{ForSome}
-use Rattle.erl_tree.specs.declared.form.Module.{Module}
-use Rattle.erl_tree.specs.Lists.{Every}
-use Rattle.erl_tree.specs.Grammar.{SpellsModule}
 use Rattle.erl_tree.specs.Readable.{IsFlatModule}
 use Rattle.erl_tree.specs.Safety.{IsSafeText}
-use Rattle.cert_checker.specs.Constraints.{Test, FindsFits, Holds, owed_of}
 use Rattle.cert_checker.specs.Failures.{MeetsConstraints}
 use Rattle.etylizer_program.specs.declared.report.Verdict.{Verdict}
 use Rattle.etylizer_program.specs.declared.report.Verdict.TheVariants.{Accepted, Failed, TooLong, NotBuilt, Usage}
 use Rattle.etylizer_program.specs.Outside.{Holdings, IsHeld, Puts, PutsBeginning}
 use Rattle.etylizer_program.specs.Commands.{command_of}
 use Rattle.etylizer_program.specs.Report.{report_text}
-use Rattle.etylizer_program.specs.Check.{text_limit, function_count, spec_clause_count, IsNotRead, IsRightVerdict}
+use Rattle.etylizer_program.specs.Check.{text_limit, function_count, spec_clause_count, IsNotRead, IsRightText, IsRightVerdict}
 
 -- the words are `check FILE`
 abbrev pub IsCheckOf : List (List ℕ) → (file : List ℕ) → Type 0
@@ -123,13 +119,8 @@ pub record NamesNoModule (words : List (List ℕ)) (held : Option Holdings) : Ty
   pub named : NamesText words held text
   pub not_read : IsNotRead text
 
--- the words name a text that spells a flat module all of whose constraints hold, with some test of arguments that finds what fits
+-- the words name a text that spells a flat module all of whose constraints hold
 pub record NamesRightModule (words : List (List ℕ)) (held : Option Holdings) : Type 0 where
   pub text : List ℕ
   pub named : NamesText words held text
-  pub tree : Module
-  pub spelled : SpellsModule text tree
-  pub flat : IsFlatModule tree
-  pub fits : Test
-  pub finds_fits : FindsFits fits
-  pub meets : Every Holds (owed_of fits tree)
+  pub right : IsRightText text
