@@ -1,5 +1,5 @@
 -- Parts of sets of keys, and which keys they have.
-use Rattle.std.specs.Prelude.{ℕ, ℤ, ◌≤◌, ◌-◌, ◌^◌, List, Bool, true, false, ◌&&◌, Option, Some, None}
+use Rattle.std.specs.Prelude.{ℤ, ◌≤◌, ◌-◌, ◌^◌, List, Bool, true, false, ◌&&◌, Option, Some, None}
 use Rattle.std.specs.List.{list_any, All}
 use Rattle.std.specs.Int.RustNames.{unsigned_abs}
 use Rattle.type_terms.specs.declared.term.Key.{Key}
