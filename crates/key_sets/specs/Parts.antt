@@ -20,7 +20,7 @@ part_has _ _ = false
 abbrev pub parts_have : List Part → Key → Bool
 parts_have parts key = list_any (λ part. part_has part key) parts
 
--- an end is open, or at most so far from 0
+-- an end is open, or at most 2^127 - 2 away from 0
 abbrev pub IsLimitedEnd : Option ℤ → Type 0
 IsLimitedEnd None = Unit {0}
 IsLimitedEnd (Some n) = unsigned_abs n ≤ 2 ^ 127 - 2
@@ -30,6 +30,6 @@ abbrev pub IsLimited : Part → Type 0
 IsLimited (Integers low high) = IsLimitedEnd low × IsLimitedEnd high
 IsLimited _ = Unit {0}
 
--- each part is so
+-- so are the ends of each part
 abbrev pub AreLimited : List Part → Type 0
 AreLimited parts = All IsLimited parts

@@ -10,7 +10,8 @@ struct Reached {
     seen: i128,
 }
 
-/// Walks from one place over the ranges that go on from there, until an end is reached.
+/// Walks over the ranges from a place on, as long as each begins at what was seen or before it, until
+/// an end is reached. Gives how far it came.
 fn walked(ranges: &[Range], from: Reached, end: i128) -> Reached
     requires { from.at ≤ length ranges.now }
     ensures further { from.at ≤ result.at }
@@ -29,7 +30,8 @@ fn walked(ranges: &[Range], from: Reached, end: i128) -> Reached
     Reached { at, seen }
 }
 
-/// The last integer of the gap behind what was seen, up to an end.
+/// The last integer of the gap behind what was seen: the next range's lower end, or the end that is
+/// given, where that comes first.
 fn gap_end(ranges: &[Range], reached: Reached, end: i128) -> i128
     requires before_end { reached.seen <ℤ end }
     requires gap { IsGap ranges.now reached.at reached.seen }
@@ -45,7 +47,8 @@ fn gap_end(ranges: &[Range], reached: Reached, end: i128) -> i128
 }
 
 /// An integer that is in a range of the left side and in none of the right side: the one nearest to 0
-/// in the first gap. The ranges of each side ascend by their lower ends.
+/// in the first gap. None where there is none. The ranges of each side ascend by their lower ends, and
+/// each is looked at once.
 pub fn integer_outside(left: &[Range], right: &[Range]) -> Option<i128>
     requires left_ascends { IsAscending left.now }
     requires right_ascends { IsAscending right.now }
