@@ -7,6 +7,9 @@ pub mod FiniteMapLaws
 pub mod MapReads
 pub mod TextExamples
 pub mod Equations
+pub mod AlikeRuns
+pub mod BoundFree
 pub mod SpentSteps
 pub mod MembershipExamples
 pub mod TreeLaws
+pub mod GrammarLaws
