@@ -1,5 +1,5 @@
 -- What two ways of applying keep, the runs of expressions and functions over them keep: a relation of runs that endings and sequencing keep goes through each level of an expression.
-use Rattle.std.proofs.Common.{◌≡◌, refl, sym, subst, ℕ, ◌≤◌, List, [], ◌∷◌, Bool, true, false, arith}
+use Rattle.std.proofs.Common.{◌≡◌, sym, subst, ℕ, ◌≤◌, List, [], ◌∷◌, Bool, true, false, arith}
 use Rattle.std.specs.Prelude.{Option, Some, None, cond}
 use Rattle.erl_tree.specs.declared.token.Node.{Node}
 use Rattle.erl_tree.specs.declared.expr.BinaryOp.{BinaryOp}
@@ -59,7 +59,7 @@ module _ (κ : RunRelation) where
   run_all-like n (d ∷ ds) [] h environment m l = absurd h
   run_all-like n (d ∷ ds) (e ∷ es) h environment m l =
       then-alike m (d.kind environment m) (e.kind environment (κ.shift m)) _ _ (h.0.runs environment m l)
-        (λ v k u. then-alike k (run_all ds environment k) _ _ _ (run_all-like n ds es h.1 environment k (le-trans u l)) (λ vs j w. gives-alike (v ∷ vs) j))
+      (λ v k u. then-alike k (run_all ds environment k) _ _ _ (run_all-like n ds es h.1 environment k (le-trans u l)) (λ vs j w. gives-alike (v ∷ vs) j))
 
   operate-alike : (op : BinaryOp) (v w : Value) (m : ℕ) → Alike Value m (operate op v w m) (operate op v w (κ.shift m))
   operate-alike Add (integer x) (integer y) m = gives-alike _ m
@@ -108,9 +108,9 @@ module _ (κ : RunRelation) where
     roll-like : (x : E.ExprKind-F ExprKind ItemKind QualifierKind AssocKind CatchKind ClauseKind) (y : Layer) → plain y ≡ x → Like n (does p (roll-ExprKind x)) (does q (roll-ExprKind x))
     roll-like x y e =
         let h : Like n (does p (roll-ExprKind (plain y))) (does q (roll-ExprKind (plain y))) =
-          subst (λ X. X) (λ j. Like n
-            (sym (fold-roll-ExprKind Does (Unit {0}) (Unit {0}) (Unit {0}) (Unit {0}) (Unit {0}) (run_layer p) (λ i. tt) (λ q. tt) (λ a. tt) (λ c. tt) (λ c. tt) (plain y)) j)
-            (sym (fold-roll-ExprKind Does (Unit {0}) (Unit {0}) (Unit {0}) (Unit {0}) (Unit {0}) (run_layer q) (λ i. tt) (λ q. tt) (λ a. tt) (λ c. tt) (λ c. tt) (plain y)) j)) (layer-like y) in
+        subst (λ X. X) (λ j. Like n
+        (sym (fold-roll-ExprKind Does (Unit {0}) (Unit {0}) (Unit {0}) (Unit {0}) (Unit {0}) (run_layer p) (λ i. tt) (λ q. tt) (λ a. tt) (λ c. tt) (λ c. tt) (plain y)) j)
+        (sym (fold-roll-ExprKind Does (Unit {0}) (Unit {0}) (Unit {0}) (Unit {0}) (Unit {0}) (run_layer q) (λ i. tt) (λ q. tt) (λ a. tt) (λ c. tt) (λ c. tt) (plain y)) j)) (layer-like y) in
         subst (λ z. Like n (does p (roll-ExprKind z)) (does q (roll-ExprKind z))) e h
 
     does-like : (e : ExprKind) → Like n (does p e) (does q e)

@@ -4,7 +4,7 @@ use Rattle.std.specs.Prelude.{nat_eq}
 use Rattle.erl_tree.specs.Functions.{find_function}
 use Rattle.erl_tree.specs.Value.{Value, named_fun, Outcome, came, raised, wrong, going, Call, Run}
 use Rattle.erl_tree.specs.Membership.{calls_below}
-use Rattle.erl_tree.specs.Running.{gives, goes_wrong, still_going, with_calls, go_on, then, Applies, Code, enter, apply_within, apply}
+use Rattle.erl_tree.specs.Running.{still_going, with_calls, go_on, then, Applies, Code, enter, apply_within, apply}
 use Rattle.erl_tree.proofs.AlikeRuns.{RunRelation, function-like, cond-like}
 
 le-here : (n : ℕ) → n ≤ n

@@ -10,6 +10,7 @@ pub mod Equations
 pub mod AlikeRuns
 pub mod BoundFree
 pub mod SpentSteps
+pub mod MoreSteps
 pub mod MembershipExamples
 pub mod TreeLaws
 pub mod GrammarLaws

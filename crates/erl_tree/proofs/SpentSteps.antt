@@ -2,7 +2,6 @@
 use Rattle.std.proofs.Common.{ℕ, suc, ◌<◌, ◌≤◌, List, arith}
 use Rattle.type_terms.specs.declared.term.Def.{Def}
 use Rattle.type_terms.specs.declared.spec.FunSpec.{FunSpec}
-use Rattle.erl_tree.specs.Value.{Value}
 use Rattle.erl_tree.specs.Membership.{Spends}
 use Rattle.erl_tree.specs.Running.{Code, apply, program_of}
 use Rattle.erl_tree.proofs.BoundFree.{Step, apply-spends}
