@@ -14,3 +14,5 @@ pub mod MoreSteps
 pub mod MembershipExamples
 pub mod TreeLaws
 pub mod GrammarLaws
+pub mod TreeExamples
+pub mod RunExamples
