@@ -3,7 +3,7 @@ use Rattle.std.proofs.Common.{◌≡◌, refl, sym, subst, ℕ, zero, suc, ◌+�
 use Rattle.std.specs.Prelude.{nat_eq, ◌≢◌}
 use Rattle.erl_tree.specs.Functions.{find_function}
 use Rattle.erl_tree.specs.Value.{Value, named_fun, Outcome, came, raised, wrong, going, Call, Run}
-use Rattle.erl_tree.specs.Running.{gives, goes_wrong, with_calls, go_on, then, Applies, Code, enter, apply}
+use Rattle.erl_tree.specs.Running.{goes_wrong, with_calls, go_on, then, Applies, Code, enter, apply}
 use Rattle.erl_tree.proofs.AlikeRuns.{RunRelation, function-like, cond-like}
 use Rattle.erl_tree.proofs.BoundFree.{apply-none, apply-step}
 

@@ -1,6 +1,6 @@
 -- Small examples of runs.
-use Rattle.std.proofs.Common.{◌≡◌, refl, sym, ◌∙◌, ap, subst, ℕ, zero, suc, pos, List, [], ◌∷◌, length, arith}
-use Rattle.std.specs.Prelude.{Some, None, codes}
+use Rattle.std.proofs.Common.{◌≡◌, refl, sym, ◌∙◌, ap, subst, ℕ, zero, suc, pos, [], ◌∷◌, length, arith}
+use Rattle.std.specs.Prelude.{codes}
 use Rattle.erl_tree.specs.declared.expr.BinaryOp.TheVariants.{Add}
 use Rattle.erl_tree.specs.declared.expr.ExprKind.{ExprKind}
 use Rattle.erl_tree.specs.declared.expr.ExprKind.TheOpen as E
@@ -11,7 +11,7 @@ use Rattle.erl_tree.specs.declared.expr.CatchKind.{CatchKind}
 use Rattle.erl_tree.specs.declared.expr.ItemKind.TheVariants as I
 use Rattle.erl_tree.specs.declared.pattern.PatternKind.TheVariants as P
 use Rattle.erl_tree.specs.declared.expr.ClauseKind.{ClauseKind, out-roll-ClauseKind}
-use Rattle.erl_tree.specs.Value.{Value, integer, named_fun, Environment, no_bindings, going}
+use Rattle.erl_tree.specs.Value.{integer, named_fun, Environment, no_bindings, going}
 use Rattle.erl_tree.specs.Matching.{with_variable, match_layer, match_next, match_patterns}
 use Rattle.erl_tree.specs.Running.{gives, goes_wrong, then, Applies, operate, run_expression, run_item_layer, run_matched, run_clause, run_clauses, apply}
 use Rattle.erl_tree.specs.Grammar.{is_pattern_layer, is_item_layer, is_clause_layer, IsFunction, IsExpr, one_product, one_operand, variable, call, last_argument}

@@ -1,14 +1,14 @@
 -- Small examples of trees.
-use Rattle.std.proofs.Common.{◌≡◌, refl, sym, ◌∙◌, ap, subst, ℕ, suc, pos, List, [], ◌∷◌, ◌++◌, max}
+use Rattle.std.proofs.Common.{◌≡◌, refl, subst, pos}
 use Rattle.std.specs.Prelude.{Some, None, codes}
-use Rattle.erl_tree.specs.declared.expr.BinaryOp.TheVariants.{Add, Sub, Mul}
+use Rattle.erl_tree.specs.declared.expr.BinaryOp.TheVariants.{Sub}
 use Rattle.erl_tree.specs.declared.expr.ExprKind.TheVariants as X
-use Rattle.erl_tree.specs.Spelling.{mark, expr_tokens}
+use Rattle.erl_tree.specs.Spelling.{expr_tokens}
 use Rattle.erl_tree.specs.Limits.{expr_depth}
-use Rattle.erl_tree.specs.Specs.{and_then, type_term}
+use Rattle.erl_tree.specs.Specs.{type_term}
 use Rattle.erl_tree.specs.Grammar.{IsType, one_type, union, atom_type, range_type, IsExpr, one_product, sum, one_operand, integer}
 use Rattle.erl_tree.specs.SmallText.{place}
-use Rattle.erl_tree.specs.SmallTrees.{int_at, grouped_left, grouped_right, difference_tokens, one_in_parens, end_at, range_type_of, range_or_atom, range_or_atom_term}
+use Rattle.erl_tree.specs.SmallTrees.{grouped_left, grouped_right, difference_tokens, one_in_parens, end_at, range_type_of, range_or_atom, range_or_atom_term}
 use Rattle.erl_tree.proofs.TreeLaws.{expr_shown-Int, expr_shown-Binary, expr_kind_depth-Int, expr_kind_depth-Paren, type_kind_term-Atom, type_kind_term-Range, type_kind_term-Or}
 use Rattle.erl_tree.proofs.GrammarLaws.{product_layer, grouped_layer, product-grouped, expr-grouped}
 
@@ -17,8 +17,8 @@ use Rattle.erl_tree.proofs.GrammarLaws.{product_layer, grouped_layer, product-gr
 pub left-formed : IsExpr grouped_left
 left-formed =
     sum Sub _ _ (place 4) tt
-      (sum Sub _ _ (place 2) tt (one_product _ (one_operand _ (integer (place 1) (pos 1)))) (one_operand _ (integer (place 3) (pos 2))))
-      (one_operand _ (integer (place 5) (pos 3)))
+    (sum Sub _ _ (place 2) tt (one_product _ (one_operand _ (integer (place 1) (pos 1)))) (one_operand _ (integer (place 3) (pos 2))))
+    (one_operand _ (integer (place 5) (pos 3)))
 
 pub right-not-formed : IsExpr grouped_right → ⊥
 right-not-formed h =
