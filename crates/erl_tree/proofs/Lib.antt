@@ -14,5 +14,7 @@ pub mod MoreSteps
 pub mod MembershipExamples
 pub mod TreeLaws
 pub mod GrammarLaws
+pub mod WellFormedParts
+pub mod Shallower
 pub mod TreeExamples
 pub mod RunExamples
