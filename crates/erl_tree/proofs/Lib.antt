@@ -13,6 +13,7 @@ pub mod SpentSteps
 pub mod MoreSteps
 pub mod MembershipExamples
 pub mod TreeLaws
+pub mod EveryLaws
 pub mod GrammarLaws
 pub mod WellFormedParts
 pub mod Shallower

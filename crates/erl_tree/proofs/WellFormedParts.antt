@@ -1,5 +1,5 @@
 -- The parts of well-formed trees, as a match finds them: k is the kind of a node, and equal to a form.
-use Rattle.std.proofs.Common.{◌≡◌, refl, sym, ◌∙◌, ap, subst, ℤ, List, [], ◌∷◌}
+use Rattle.std.proofs.Common.{◌≡◌, refl, sym, ◌∙◌, ap, subst, ℕ, ◌<◌, length, get_or, ℤ, List, [], ◌∷◌}
 use Rattle.std.specs.Prelude.{Option, Some, None}
 use Rattle.type_terms.specs.Keys.{Name}
 use Rattle.erl_tree.specs.Lists.{Every}
@@ -25,6 +25,7 @@ use Rattle.erl_tree.specs.declared.expr.CatchKind.{CatchKind}
 use Rattle.erl_tree.specs.declared.expr.ExprKind.TheVariants as EV
 use Rattle.erl_tree.specs.declared.expr.ExprKind.TheOpen as E
 use Rattle.erl_tree.specs.Grammar.{is_end_layer, IsEnd, IsType, one_type, union, IsSimpleType, atom_type, integer_type, negative_type, range_type, use_type, paren_type, is_pattern_layer, IsPattern, IsExpr, one_product, sum, one_operand, product, IsOperand, integer, atom, variable, parens, call, is_item_layer, IsItem}
+use Rattle.erl_tree.proofs.EveryLaws.{every-item}
 use Rattle.erl_tree.proofs.GrammarLaws.{IsArithmetic, flat_layer, expr-layer-at, flat_type_layer, type-layer-at}
 
 -- ---- expressions
@@ -71,7 +72,11 @@ expr-only e q (one_product _ (one_operand _ h)) a i v pa b c = operand-only e q 
 expr-only _ q (one_product _ (product x y m h l)) a i v pa b c = b Mul x y q
 expr-only _ q (sum op x y m o h l) a i v pa b c = b op x y q
 
-pub ruleset expr_parts = (paren-inner, binary-op, binary-left, binary-right, call-prefix, call-args, expr-only)
+-- the element that a loop over expressions reads
+pub expr-item : (es : List (Node ExprKind)) (i : ℕ) (e : Node ExprKind) → i < length es → e ≡ get_or es i e → Every IsExpr es → IsExpr e
+expr-item es i e l p h = every-item IsExpr es i e l p h
+
+pub ruleset expr_parts = (expr-item, paren-inner, binary-op, binary-left, binary-right, call-prefix, call-args, expr-only)
 
 -- ---- types
 
