@@ -1,7 +1,8 @@
 //! Whether names are used rightly in a flat module.
 
 ghost use Rattle.std.specs.Prelude.{IsTrue, IfOk};
-ghost use Rattle.erl_tree.specs.Spelling.{IsWellFormed};
+ghost use Rattle.erl_tree.specs.Grammar.{IsWellFormed};
+ghost use Rattle.erl_tree.specs.Limits.{IsShallow, HasIntegersInLimit};
 ghost use Rattle.erl_tree.specs.Readable.{IsFlatModule};
 
 use crate::forms::are_right_forms;
@@ -19,7 +20,9 @@ use type_terms::NoMemory;
 ///
 /// `NoMemory` where memory runs out.
 pub fn is_readable(alloc: Global, module: &Module) -> Result<bool, NoMemory>
-    requires { IsWellFormed «module».now }
+    requires well_formed { IsWellFormed «module».now }
+    requires shallow { IsShallow «module».now }
+    requires in_limit { HasIntegersInLimit «module».now }
     ensures sound { IfOk result (λ answer. IsTrue answer → IsFlatModule «module».now) }
     ensures complete { IfOk result (λ answer. IsFlatModule «module».now → IsTrue answer) }
 {
