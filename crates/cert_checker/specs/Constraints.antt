@@ -1,18 +1,20 @@
--- What the functions of a module owe: that the type of each body is within the result of the function's spec. In its part on flat modules.
-use Rattle.std.specs.Prelude.{◌≡◌, ℕ, ◌+◌, List, [], ◌∷◌, ◌++◌, length, Option, Some, None, if◌then◌else◌}
+-- What the functions of a module owe: that operands are integers, that calls are within the specs of the functions that are called, and that the type of each body is within the result of the function's spec. In its part on flat modules, in which the one clause of a function takes all arguments of its spec, so that nothing is owed of its head.
+use Rattle.std.specs.Prelude.{◌≡◌, ℕ, ◌+◌, List, [], ◌∷◌, ◌++◌, map, length, Bool, true, false, Option, Some, None, if◌then◌else◌}
 use Rattle.std.specs.List.{list_any}
-use Rattle.type_terms.specs.declared.term.Term.{Term, Ints, AtomLit}
+use Rattle.type_terms.specs.declared.term.Term.{Term, Any, Ints, AtomLit, And, Fun}
 use Rattle.type_terms.specs.declared.spec.Arrow.{Arrow}
 use Rattle.type_terms.specs.declared.spec.FunSpec.{FunSpec}
 use Rattle.type_terms.specs.declared.spec.Kind.{Kind}
-use Rattle.type_terms.specs.declared.spec.Kind.TheVariants.{Result}
+use Rattle.type_terms.specs.declared.spec.Kind.TheVariants.{Operand, Call, Result}
 use Rattle.type_terms.specs.Keys.{Name, same_name}
 use Rattle.type_terms.specs.Definitions.{given_definitions}
 use Rattle.type_terms.specs.Instances.{Instance, IsInstance}
 use Rattle.erl_tree.specs.declared.token.Place.{Place}
 use Rattle.erl_tree.specs.declared.token.Node.{Node}
 use Rattle.erl_tree.specs.declared.pattern.PatternKind.{PatternKind, out-PatternKind}
-use Rattle.erl_tree.specs.declared.expr.ExprKind.{ExprKind, out-ExprKind}
+use Rattle.erl_tree.specs.declared.expr.BinaryOp.{BinaryOp}
+use Rattle.erl_tree.specs.declared.expr.BinaryOp.TheVariants.{Add, Sub, Mul}
+use Rattle.erl_tree.specs.declared.expr.ExprKind.{ExprKind, fold-ExprKind}
 use Rattle.erl_tree.specs.declared.expr.ItemKind.{ItemKind, out-ItemKind}
 use Rattle.erl_tree.specs.declared.expr.ClauseKind.{ClauseKind, out-ClauseKind}
 use Rattle.erl_tree.specs.declared.expr.QualifierKind.{QualifierKind}
@@ -22,14 +24,14 @@ use Rattle.erl_tree.specs.declared.expr.ExprKind.TheOpen as E
 use Rattle.erl_tree.specs.declared.form.Function.{Function}
 use Rattle.erl_tree.specs.declared.form.Module.{Module}
 use Rattle.erl_tree.specs.Functions.{functions_of, clauses_arity}
-use Rattle.erl_tree.specs.Specs.{specs_of}
+use Rattle.erl_tree.specs.Specs.{specs_of, and_then, one_integer}
 use Rattle.erl_tree.specs.Readable.{bound_layer}
 use Rattle.erl_tree.specs.Value.{Value}
 use Rattle.erl_tree.specs.Membership.{Program, InTerm, arrows_of}
 
 -- ---- constraints
 
--- what a function owes: the left term within the right one. The place is that of the expression whose type is the left term
+-- what a function owes: the left term within the right one. The place is that of the expression whose type is the left term, and that of the call where a call is within a spec
 pub record Constraint : Type 0 where
   pub function : ℕ
   pub place : Place
@@ -45,60 +47,155 @@ IsWithin left right = (program : Program) (i : Instance) (k : ℕ) (v : Value) �
 abbrev pub Holds : Constraint → Type 0
 Holds c = IsWithin c.left c.right
 
+-- ---- arguments that fit
+
+-- as many terms, each within its counterpart
+abbrev pub AreWithin : List Term → List Term → Type 0
+AreWithin [] [] = Unit {0}
+AreWithin (s ∷ ss) (t ∷ ts) = IsWithin s t × AreWithin ss ts
+AreWithin _ _ = ⊥
+
+-- a test of whether the types of arguments fit parameters
+abbrev pub Test : Type 0
+Test = List Term → List Term → Bool
+
+-- It says yes wherever they fit. What is claimed of the constraints holds for each such test, and the exact one is among them: what a call's type is where its arguments don't fit makes no difference to whether all constraints hold and to which one fails first, since the call's own constraint fails before any that depends on it.
+abbrev pub FindsFits : Test → Type 0
+FindsFits fits = (types parameters : List Term) → AreWithin types parameters → fits types parameters ≡ true
+
 -- ---- the types of expressions
 
+-- the types of variables
+abbrev pub Context : Type 0
+Context = Name → Option Term
+
 -- the type of a variable of a head: that of its parameter
-abbrev pub variable_type : List (Node PatternKind) → List Term → Name → Option Term
+abbrev pub variable_type : List (Node PatternKind) → List Term → Context
 variable_type (p ∷ patterns) (t ∷ types) x = if list_any (same_name x) (bound_layer (out-PatternKind p.kind)) then Some t else variable_type patterns types x
 variable_type _ _ x = None
 
--- an integer and an atom have the type of that one value, a variable that of its parameter
-abbrev pub expression_layer_type : E.ExprKind-F ExprKind ItemKind QualifierKind AssocKind CatchKind ClauseKind → List (Node PatternKind) → List Term → Option Term
-expression_layer_type (E.Int n) patterns types = Some (Ints (Some n) (Some n))
-expression_layer_type (E.Atom a) patterns types = Some (AtomLit a)
-expression_layer_type (E.Var x) patterns types = variable_type patterns types x
-expression_layer_type _ patterns types = None
+-- the type of an expression, and what it owes
+pub record Judged : Type 0 where
+  pub type : Term
+  pub owed : List Constraint
 
--- the type of an expression, in a clause with this head and these parameters
-abbrev pub expression_type : Node ExprKind → List (Node PatternKind) → List Term → Option Term
-expression_type e patterns types = expression_layer_type (out-ExprKind e.kind) patterns types
+-- the types of several expressions, and what they owe together
+pub record JudgedAll : Type 0 where
+  pub types : List Term
+  pub owed : List Constraint
 
--- ---- what is owed
+-- what is said of an expression at its place, where the variables have these types; nothing is said of forms that aren't written yet
+abbrev pub Judges : Type 0
+Judges = Place → Context → Option Judged
 
--- the constraint that an expression's type is within the result; in a flat module each expression has a type
-abbrev pub owed_result : ℕ → Place → Option Term → Term → List Constraint
-owed_result function place None result = []
-owed_result function place (Some type) result = record { function = function; place = place; kind = Result; left = type; right = result } ∷ []
+-- a type, of an expression that owes nothing
+abbrev pub of_type : Term → Option Judged
+of_type t = Some (record { type = t; owed = [] })
 
--- an expression as an element of a body owes that its type is within the arrow's result
-abbrev pub owed_by_item : ℕ → E.ItemKind-F ExprKind ItemKind QualifierKind AssocKind CatchKind ClauseKind → List (Node PatternKind) → Arrow → List Constraint
-owed_by_item function (E.Value e) patterns arrow = owed_result function e.place (expression_type e patterns arrow.params) arrow.result
-owed_by_item function _ patterns arrow = []
+-- all integers
+abbrev pub integers : Term
+integers = Ints None None
 
--- what is owed is one constraint
-abbrev pub OwesOne : List Constraint → Type 0
-OwesOne owed = length owed ≡ 1
+-- whether an operator is `+`, `-` or `*`
+abbrev pub is_arithmetic : BinaryOp → Bool
+is_arithmetic Add = true
+is_arithmetic Sub = true
+is_arithmetic Mul = true
+is_arithmetic _ = false
 
--- what a body of one element owes
-abbrev pub owed_by_body : ℕ → List (Node ItemKind) → List (Node PatternKind) → Arrow → List Constraint
-owed_by_body function (i ∷ []) patterns arrow = owed_by_item function (out-ItemKind i.kind) patterns arrow
-owed_by_body function _ patterns arrow = []
+-- an arrow of a spec as a type
+abbrev pub arrow_term : Arrow → Term
+arrow_term arrow = Fun arrow.params arrow.result
 
--- what clauses owe for one arrow of the spec
-abbrev pub owed_by_clauses : ℕ → List (Node ClauseKind) → Arrow → List Constraint
-owed_by_clauses function [] arrow = []
-owed_by_clauses function (c ∷ cs) arrow = owed_by_body function (out-ClauseKind c.kind).body (out-ClauseKind c.kind).patterns arrow ++ owed_by_clauses function cs arrow
+-- expressions in turn, from left to right
+abbrev pub judge_all : List (Node Judges) → Context → Option JudgedAll
+judge_all [] context = Some (record { types = []; owed = [] })
+judge_all (e ∷ es) context = and_then (e.kind e.place context) (λ j. and_then (judge_all es context) (λ js. Some (record { types = j.type ∷ js.types; owed = j.owed ++ js.owed })))
 
--- what clauses owe for each arrow of the spec
-abbrev pub owed_for_arrows : ℕ → List (Node ClauseKind) → List Arrow → List Constraint
-owed_for_arrows function clauses [] = []
-owed_for_arrows function clauses (arrow ∷ arrows) = owed_by_clauses function clauses arrow ++ owed_for_arrows function clauses arrows
+module _ (fits : Test) (function : ℕ) (specs : List FunSpec) where
+  -- an operand within `integer()`
+  abbrev pub operand : Place → Term → Constraint
+  operand place type = record { function = function; place = place; kind = Operand; left = type; right = integers }
+
+  -- an operation on two operands gives an integer; the operands owe what they owe, and that they are integers
+  abbrev pub operation : Bool → Place → Judged → Place → Judged → Option Judged
+  operation true p a q b = Some (record { type = integers; owed = a.owed ++ (b.owed ++ operand p a.type ∷ operand q b.type ∷ []) })
+  operation _ p a q b = None
+
+  -- the type of a call: the arrow's result where the arguments fit, and any type where they don't
+  abbrev pub call_type : List Term → Arrow → Term
+  call_type types arrow = if fits types arrow.params then arrow.result else Any
+
+  -- a call of a function with these arrows, of which there is one: the function is within the funs that take such arguments and give the call's type
+  abbrev pub call : Place → List Arrow → JudgedAll → Option Judged
+  call place (arrow ∷ []) args = Some (record {
+    type = call_type args.types arrow;
+    owed = args.owed ++ record { function = function; place = place; kind = Call; left = And (arrow_term arrow ∷ []); right = Fun args.types (call_type args.types arrow) } ∷ [];
+  })
+  call place _ args = None
+
+  -- one level of an expression: an integer and an atom have the type of that one value, a variable that of its parameter
+  abbrev pub judge_layer : E.ExprKind-F Judges (Unit {0}) (Unit {0}) (Unit {0}) (Unit {0}) (Unit {0}) → Judges
+  judge_layer (E.Int n) place context = of_type (one_integer n)
+  judge_layer (E.Atom a) place context = of_type (AtomLit a)
+  judge_layer (E.Var x) place context = and_then (context x) of_type
+  judge_layer (E.Paren e) place context = e.kind e.place context
+  judge_layer (E.Binary op a b) place context = and_then (a.kind a.place context) (λ j. and_then (b.kind b.place context) (λ k. operation (is_arithmetic op) a.place j b.place k))
+  judge_layer (E.Call None name args) place context = and_then (judge_all args context) (λ js. call place (arrows_of specs name (length js.types)) js)
+  judge_layer _ place context = None
+
+  -- what stands in an expression's node
+  unfoldable pub judge_kind : ExprKind → Judges
+  judge_kind e = fold-ExprKind Judges (Unit {0}) (Unit {0}) (Unit {0}) (Unit {0}) (Unit {0}) judge_layer (λ i. tt) (λ q. tt) (λ a. tt) (λ c. tt) (λ c. tt) e
+
+  -- an expression
+  abbrev pub judge : Node ExprKind → Context → Option Judged
+  judge e context = judge_kind e.kind e.place context
+
+  -- ---- what is owed
+
+  -- an expression of this type owes, after what it owes by itself, that the type is within the result
+  abbrev pub owed_result : Place → Option Judged → Term → List Constraint
+  owed_result place None result = []
+  owed_result place (Some j) result = j.owed ++ record { function = function; place = place; kind = Result; left = j.type; right = result } ∷ []
+
+  -- an expression as an element of a body
+  abbrev pub owed_by_item : E.ItemKind-F ExprKind ItemKind QualifierKind AssocKind CatchKind ClauseKind → List (Node PatternKind) → Arrow → List Constraint
+  owed_by_item (E.Value e) patterns arrow = owed_result e.place (judge e (variable_type patterns arrow.params)) arrow.result
+  owed_by_item _ patterns arrow = []
+
+  -- what a body of one element owes
+  abbrev pub owed_by_body : List (Node ItemKind) → List (Node PatternKind) → Arrow → List Constraint
+  owed_by_body (i ∷ []) patterns arrow = owed_by_item (out-ItemKind i.kind) patterns arrow
+  owed_by_body _ patterns arrow = []
+
+  -- what clauses owe for one arrow of the spec
+  abbrev pub owed_by_clauses : List (Node ClauseKind) → Arrow → List Constraint
+  owed_by_clauses [] arrow = []
+  owed_by_clauses (c ∷ cs) arrow = owed_by_body (out-ClauseKind c.kind).body (out-ClauseKind c.kind).patterns arrow ++ owed_by_clauses cs arrow
+
+  -- what clauses owe for each arrow of the spec
+  abbrev pub owed_for_arrows : List (Node ClauseKind) → List Arrow → List Constraint
+  owed_for_arrows clauses [] = []
+  owed_for_arrows clauses (arrow ∷ arrows) = owed_by_clauses clauses arrow ++ owed_for_arrows clauses arrows
 
 -- what functions owe, the first of which has this number
-abbrev pub owed_by_functions : ℕ → List Function → List FunSpec → List Constraint
-owed_by_functions number [] specs = []
-owed_by_functions number (f ∷ fs) specs = owed_for_arrows number f.clauses (arrows_of specs f.name (clauses_arity f.clauses)) ++ owed_by_functions (number + 1) fs specs
+abbrev pub owed_by_functions : Test → ℕ → List Function → List FunSpec → List Constraint
+owed_by_functions fits number [] specs = []
+owed_by_functions fits number (f ∷ fs) specs = owed_for_arrows fits number specs f.clauses (arrows_of specs f.name (clauses_arity f.clauses)) ++ owed_by_functions fits (number + 1) fs specs
 
 -- what a module owes: for each function, in text order and counted from 0, and each arrow of its spec
-unfoldable pub owed_of : Module → List Constraint
-owed_of m = owed_by_functions 0 (functions_of m) (specs_of m)
+unfoldable pub owed_of : Test → Module → List Constraint
+owed_of fits m = owed_by_functions fits 0 (functions_of m) (specs_of m)
+
+-- ---- counts
+
+-- whether a constraint says that a body is within the result
+abbrev pub is_result : Kind → Bool
+is_result Result = true
+is_result _ = false
+
+-- the number of constraints that say that a body is within the result
+abbrev pub result_count : List Constraint → ℕ
+result_count [] = 0
+result_count (c ∷ cs) = (if is_result c.kind then 1 else 0) + result_count cs

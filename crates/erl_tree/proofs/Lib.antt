@@ -7,6 +7,15 @@ pub mod FiniteMapLaws
 pub mod MapReads
 pub mod TextExamples
 pub mod Equations
+pub mod AlikeRuns
+pub mod BoundFree
 pub mod SpentSteps
+pub mod MoreSteps
 pub mod MembershipExamples
 pub mod TreeLaws
+pub mod EveryLaws
+pub mod GrammarLaws
+pub mod WellFormedParts
+pub mod Shallower
+pub mod TreeExamples
+pub mod RunExamples
