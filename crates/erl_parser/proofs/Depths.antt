@@ -10,8 +10,8 @@ use Rattle.erl_tree.specs.declared.type_expr.TypeKind.TheVariants as Y
 use Rattle.erl_tree.specs.declared.type_expr.TypeKind.TheOpen as O
 use Rattle.erl_tree.specs.declared.expr.ExprKind.{ExprKind}
 use Rattle.erl_tree.specs.Limits.{type_depth_layer, type_kind_depth, expr_depth}
-use Rattle.erl_tree.proofs.TreeLaws.{type_kind_depth-Atom, type_kind_depth-Int, type_kind_depth-NegInt, expr_depths}
-use Rattle.erl_parser.specs.Reading.{◌>>=◌, literal_type, read_simple_type, read_union, read_type, read_operand, read_additive, read_multiplicative, read_chained, read_operand_at, read_product, read_expr}
+use Rattle.erl_tree.proofs.TreeLaws.{type_kind_depth-Atom, type_kind_depth-Int, type_kind_depth-NegInt}
+use Rattle.erl_parser.specs.Reading.{◌>>=◌, expr_depths, literal_type, read_simple_type, read_union, read_type, read_operand, read_additive, read_multiplicative, read_chained, read_operand_at, read_product, read_expr}
 
 -- ---- types
 

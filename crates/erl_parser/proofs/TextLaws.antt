@@ -5,7 +5,7 @@ use Rattle.erl_tree.specs.Lists.{Every, Among}
 use Rattle.erl_tree.specs.Lexis.{SpellsTokens, start}
 use Rattle.erl_tree.specs.Spelling.{tokens_of}
 use Rattle.erl_tree.specs.Grammar.{SpellsModule}
-use Rattle.erl_tree.specs.Limits.{IsAboveLimit, IsInLimit, HasIntegersInLimit}
+use Rattle.erl_tree.specs.Limits.{IsAboveLimit, HasIntegersInLimit}
 use Rattle.erl_tree.specs.Readable.{IsFlatModule}
 use Rattle.erl_tree.specs.declared.token.Placed.{Placed}
 use Rattle.erl_tree.specs.declared.form.Module.{Module}
@@ -31,7 +31,3 @@ every_at P x (y ∷ ys) h (inr a) = every_at P x ys h.1 a
 -- integers in the limit are not above it
 pub in_limit : (m : Module) → HasIntegersInLimit m → (t : Placed) × Among t (tokens_of m) × IsAboveLimit t.token → ⊥
 in_limit m h (t, a, w) = every_at (λ (u : Placed). IsAboveLimit u.token → ⊥) t (tokens_of m) h a w
-
--- a module has the tokens' integers
-pub tokens_in_limit : (tokens : List Placed) (m : Module) → Every (λ t. IsInLimit t.token) tokens → tokens_of m ≡ tokens → HasIntegersInLimit m
-tokens_in_limit tokens m h e = subst (λ (ts : List Placed). Every (λ t. IsInLimit t.token) ts) (sym e) h
