@@ -1,11 +1,10 @@
 -- For the code: the readers' equations, at a depth that is 0 and at one that is not; and the depth of lists and literals.
-use Rattle.std.proofs.Common.{◌≡◌, ◌≢◌, ℕ, zero, suc, ◌-◌, List, [], ◌∷◌, ◌++◌, Option, None, max, refl, ap, sym, ◌∙◌, arith}
-use Rattle.erl_tree.specs.declared.token.Place.{Place}
+use Rattle.std.proofs.Common.{◌≡◌, ◌≢◌, ℕ, zero, suc, ◌-◌, List, [], ◌∷◌, ◌++◌, None, max, refl, ap, sym, ◌∙◌, arith}
 use Rattle.erl_tree.specs.declared.token.Placed.{Placed}
 use Rattle.erl_tree.specs.declared.token.Node.{Node}
 use Rattle.erl_tree.specs.declared.pattern.LiteralKind.{LiteralKind}
 use Rattle.erl_tree.specs.declared.pattern.LiteralKind.TheVariants as L
-use Rattle.erl_tree.specs.declared.type_expr.TypeKind.{TypeKind, fold-roll-TypeKind}
+use Rattle.erl_tree.specs.declared.type_expr.TypeKind.{fold-roll-TypeKind}
 use Rattle.erl_tree.specs.declared.type_expr.TypeKind.TheVariants as Y
 use Rattle.erl_tree.specs.declared.type_expr.TypeKind.TheOpen as O
 use Rattle.erl_tree.specs.declared.expr.ExprKind.{ExprKind}

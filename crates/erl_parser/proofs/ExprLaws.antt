@@ -1,5 +1,5 @@
 -- Expressions: what is well formed and nested within the limit is read again; what is read is that and takes exactly its tokens.
-use Rattle.std.proofs.Common.{◌≡◌, ℕ, ℤ, zero, suc, ◌≤◌, List, [], ◌∷◌, ◌++◌, map, length, Some, None, ap, sym, refl, subst, ◌∙◌, inl, inr, le-leb, leb-true, le_refl, append_assoc, max, arith}
+use Rattle.std.proofs.Common.{◌≡◌, ℕ, zero, suc, ◌≤◌, List, [], ◌∷◌, ◌++◌, map, length, Some, None, ap, sym, refl, subst, ◌∙◌, inl, inr, le-leb, leb-true, le_refl, append_assoc, arith}
 use Rattle.std.specs.Prelude.{codes, nat_le}
 use Rattle.std.proofs.lemmas.List.{length-append}
 use Rattle.erl_tree.specs.declared.token.Place.{Place}
