@@ -1,4 +1,4 @@
--- Going on with what was read gives what reading gives: the steps of the loops over lists and over forms.
+-- Going on with what was read gives what reading gives: the steps of the loops over lists, over operators and over forms.
 use Rattle.std.proofs.Common.{◌≡◌, ℕ, zero, suc, ◌+◌, ◌≤◌, ◌<◌, List, [], ◌∷◌, ◌++◌, length, Option, Some, None, refl, sym, ◌∙◌, append_assoc, le_refl, arith}
 use Rattle.std.specs.Prelude.{codes}
 use Rattle.std.proofs.lemmas.List.{append-nil}

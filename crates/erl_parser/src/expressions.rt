@@ -67,7 +67,6 @@ fn binary(
 }
 
 /// `f(E, ..)`, by its parts and the places of its marks.
-#[tactic(auto, using(erl_tree::proofs::TreeLaws::expr_depth_laws, std::proofs::lemmas::Grind::common_steps))]
 fn call(
     alloc: Global,
     name: Text,
@@ -76,7 +75,7 @@ fn call(
     more: List<Place>,
     args: List<Expr>,
 ) -> Result<Expr, NoMemory>
-    ensures exact { IfOk result (λ x. x ≡ node place (place ∷ opening ∷ more) (kinds.Call None name args)) }
+    ensures { IfOk result (λ x. x ≡ node place (place ∷ opening ∷ more) (kinds.Call None name args)) }
 {
     let mut marks = List::from_slice(alloc, &[place, opening])?;
     marks.append(more)?;

@@ -246,7 +246,8 @@ fn lexed(alloc: Global, text: &[u8]) -> Result<List<Placed>, Fail> {
 fn read_expr(alloc: Global, text: &[u8]) -> Result<Option<(Text, usize)>, Fail> {
     let tokens = lexed(alloc, text)?;
     match expr(alloc, tokens.as_slice()) {
-        Err(_fault) => Ok(None),
+        Err(FirstFault::NoMemory) => Err(Fail::from("no memory")),
+        Err(FirstFault::NotBuilt) => Ok(None),
         Ok((found, rest)) => {
             let mut out = List::new(alloc);
             put_expr(alloc, &mut out, &found)?;
@@ -259,7 +260,8 @@ fn read_expr(alloc: Global, text: &[u8]) -> Result<Option<(Text, usize)>, Fail> 
 fn read_type(alloc: Global, text: &[u8]) -> Result<Option<(Text, usize)>, Fail> {
     let tokens = lexed(alloc, text)?;
     match type_expr(alloc, tokens.as_slice()) {
-        Err(_fault) => Ok(None),
+        Err(FirstFault::NoMemory) => Err(Fail::from("no memory")),
+        Err(FirstFault::NotBuilt) => Ok(None),
         Ok((found, rest)) => {
             let mut out = List::new(alloc);
             put_type(alloc, &mut out, &found)?;
