@@ -187,7 +187,7 @@ pub record JudgedBody (fits : Test) (number : ℕ) (specs : List FunSpec) (f : F
   pub is_judged : judge fits number specs expression (variable_type (out-ClauseKind clause.kind).patterns arrow.params) ≡ Some judged
   pub none_on_result : result_count judged.owed ≡ 0
 
-among-source : {A B : Type 0} (f : A → B) (y : B) (xs : List A) → Among y (map f xs) → (x : A) × Among x xs × (y ≡ f x)
+pub among-source : {A B : Type 0} (f : A → B) (y : B) (xs : List A) → Among y (map f xs) → (x : A) × Among x xs × (y ≡ f x)
 among-source f y [] a = absurd a
 among-source f y (x ∷ xs) (inl e) = (x, inl refl, e)
 among-source f y (x ∷ xs) (inr a) = let r : (z : _) × Among z xs × (y ≡ f z) = among-source f y xs a in (r.0, inr r.1, r.2)
