@@ -13,7 +13,7 @@ use Rattle.erl_tree.specs.declared.expr.ExprKind.TheOpen as E
 use Rattle.erl_tree.specs.declared.expr.ExprKind.TheShapes as S
 use Rattle.erl_tree.specs.Specs.{and_then, one_integer}
 use Rattle.erl_tree.specs.Membership.{arrows_of}
-use Rattle.cert_checker.specs.Constraints.{Test, Context, Judged, JudgedAll, Judges, of_type, is_arithmetic, judge_all, operation, call, judge_layer, judge_kind, judge}
+use Rattle.cert_checker.specs.Constraints.{Test, Context, JudgedAll, Judges, of_type, is_arithmetic, judge_all, operation, call, judge_layer, judge_kind, judge}
 
 module _ (fits : Test) (function : ℕ) (specs : List FunSpec) where
   -- expressions in turn, from left to right

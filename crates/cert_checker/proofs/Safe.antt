@@ -3,13 +3,13 @@ use Rattle.std.proofs.Common.{◌≡◌, refl, sym, ◌∙◌, ap, subst, ◌⊎
 use Rattle.std.specs.Prelude.{Bool, true, false, ◌||◌, ◌&&◌, Option, Some, None, cond, map, pos, negsuc, ℤ, nat_eq, if◌then◌else◌}
 use Rattle.std.specs.List.{Contains, list_any}
 use Rattle.std.proofs.lemmas.Bool.{and_parts, and_from, eqb-true, eq-eqb}
-use Rattle.type_terms.specs.declared.term.Term.{Term, Ints, AtomLit, And, Fun}
+use Rattle.type_terms.specs.declared.term.Term.{Term, AtomLit, And, Fun}
 use Rattle.type_terms.specs.declared.spec.Arrow.{Arrow}
 use Rattle.type_terms.specs.declared.spec.FunSpec.{FunSpec}
-use Rattle.type_terms.specs.declared.spec.Kind.TheVariants.{Operand, Call as CallKind, Result}
+use Rattle.type_terms.specs.declared.spec.Kind.TheVariants.{Call as CallKind, Result}
 use Rattle.type_terms.specs.Keys.{Name, same_name}
 use Rattle.type_terms.specs.Definitions.{given_definitions}
-use Rattle.type_terms.specs.Instances.{Instance, IsInstance, no_variables}
+use Rattle.type_terms.specs.Instances.{Instance, no_variables}
 use Rattle.type_terms.specs.Reading.{Reading, le_int}
 use Rattle.type_terms.proofs.KeyLaws.{name-refl, name-is}
 use Rattle.type_terms.proofs.Contained.{contains-cases, contains-none, contains-first}
@@ -21,27 +21,22 @@ use Rattle.erl_tree.specs.declared.expr.BinaryOp.{BinaryOp}
 use Rattle.erl_tree.specs.declared.expr.BinaryOp.TheVariants.{Add, Sub, Mul}
 use Rattle.erl_tree.specs.declared.expr.ExprKind.{ExprKind}
 use Rattle.erl_tree.specs.declared.expr.ExprKind.TheVariants as X
-use Rattle.erl_tree.specs.declared.expr.ItemKind.{ItemKind, out-ItemKind}
 use Rattle.erl_tree.specs.declared.expr.ClauseKind.{ClauseKind, out-ClauseKind}
-use Rattle.erl_tree.specs.declared.expr.QualifierKind.{QualifierKind}
-use Rattle.erl_tree.specs.declared.expr.AssocKind.{AssocKind}
-use Rattle.erl_tree.specs.declared.expr.CatchKind.{CatchKind}
-use Rattle.erl_tree.specs.declared.expr.ExprKind.TheOpen as E
 use Rattle.erl_tree.specs.declared.form.Function.{Function}
 use Rattle.erl_tree.specs.declared.form.Module.{Module}
-use Rattle.erl_tree.specs.Lists.{Every, Among, AreDistinct}
+use Rattle.erl_tree.specs.Lists.{Every, Among}
 use Rattle.erl_tree.specs.Functions.{of_function, function_id, functions_of, function_ids, clauses_arity, find_function, FunctionId}
 use Rattle.erl_tree.specs.Specs.{and_then, one_integer, specs_of, specs_in, spec_id}
-use Rattle.erl_tree.specs.Grammar.{IsExpr, one_product, sum, IsProduct, one_operand, product, IsOperand, AreArguments, no_arguments, last_argument, more_arguments, IsAdditive, IsPattern, is_pattern_layer, IsBody, IsClause}
+use Rattle.erl_tree.specs.Grammar.{IsExpr, one_product, sum, IsProduct, one_operand, product, IsOperand, AreArguments, no_arguments, last_argument, more_arguments, IsAdditive, IsPattern, is_pattern_layer, IsBody}
 use Rattle.erl_tree.specs.Grammar as G
 use Rattle.erl_tree.specs.Readable.{is_wildcard, bound_layer, bound_by, HasDistinctHead, IsFlatModule}
 use Rattle.erl_tree.specs.Value.{Value, Environment, no_bindings, named_fun, Run, Outcome, came, raised, wrong, going, integer, atom, Call, nil, cons, tuple, map_of, closure}
 use Rattle.erl_tree.specs.Matching.{variable_value, match_patterns}
-use Rattle.erl_tree.specs.Membership.{Program, InTerm, values_in, arrows_if, arrows_of, ends_well, call_within, calls_within}
-use Rattle.erl_tree.specs.Running.{gives, gives_found, goes_wrong, still_going, with_calls, go_on, then, Applies, operate, run_kind, run_expression, run_item_layer, run_body, run_matched, run_clause, run_clauses, run_found, Code, code_of, enter, apply_within, apply, program_of}
+use Rattle.erl_tree.specs.Membership.{Program, InTerm, values_in, arrows_if, arrows_of, ends_well, calls_within}
+use Rattle.erl_tree.specs.Running.{gives, gives_found, goes_wrong, go_on, then, Applies, operate, run_kind, run_expression, run_item_layer, run_clause, run_clauses, run_found, Code, code_of, enter, apply_within, apply, program_of}
 use Rattle.erl_tree.specs.Safety.{IsRightRun, IsSafe}
 use Rattle.erl_tree.proofs.TreeLaws.{run_args, run_kind-Int, run_kind-Atom, run_kind-Var, run_kind-Paren, run_kind-Binary, run_kind-Call}
-use Rattle.cert_checker.specs.Constraints.{Constraint, Test, Holds, IsWithin, Context, Judged, JudgedAll, of_type, integers, is_arithmetic, operand, operation, call, variable_type, judge, judge_kind, owed_result, owed_by_clauses, owed_for_arrows, owed_by_functions, owed_of}
+use Rattle.cert_checker.specs.Constraints.{Test, Holds, IsWithin, Context, Judged, JudgedAll, of_type, integers, is_arithmetic, operand, operation, call, variable_type, judge, judge_kind, owed_result, owed_by_clauses, owed_for_arrows, owed_by_functions, owed_of}
 use Rattle.cert_checker.specs.Failures.{MeetsConstraints}
 use Rattle.cert_checker.proofs.Lists.{every-split, every-at, then-some, some-inj, none-some}
 use Rattle.cert_checker.proofs.Heads.{Taken, all_in, take-patterns}
