@@ -29,13 +29,13 @@ use Rattle.cert_checker.proofs.KeyTerms.{IsKey, IsOfKeys, values-moved, values-k
 -- ---- equal keys
 
 -- whether two values are the same key
-abbrev same_value : Value → Value → Bool
+abbrev pub same_value : Value → Value → Bool
 same_value (integer m) (integer n) = same_int m n
 same_value (atom a) (atom b) = same_name a b
 same_value _ _ = false
 
 -- whether two rows of values are the same keys
-abbrev same_values : List Value → List Value → Bool
+abbrev pub same_values : List Value → List Value → Bool
 same_values [] [] = true
 same_values (v ∷ vs) (w ∷ ws) = same_value v w && same_values vs ws
 same_values _ _ = false
@@ -65,11 +65,11 @@ value-is v (map_of es) h e = absurd h
 value-is v (named_fun name arity) h e = absurd h
 value-is v (closure number environment) h e = absurd h
 
-values-refl : (vs : List Value) → Every IsKey vs → same_values vs vs ≡ true
+pub values-refl : (vs : List Value) → Every IsKey vs → same_values vs vs ≡ true
 values-refl [] h = refl
 values-refl (v ∷ vs) h = and_from _ _ (value-refl v h.0) (values-refl vs h.1)
 
-values-are : (vs ws : List Value) → Every IsKey ws → same_values vs ws ≡ true → vs ≡ ws
+pub values-are : (vs ws : List Value) → Every IsKey ws → same_values vs ws ≡ true → vs ≡ ws
 values-are [] [] h e = refl
 values-are (v ∷ vs) (w ∷ ws) h e = let p : (same_value v w ≡ true) × (same_values vs ws ≡ true) = and_parts _ _ e in ap₂ ◌∷◌ (value-is v w h.0 p.0) (values-are vs ws h.1 p.1)
 values-are [] (w ∷ ws) h e = absurd (false≢true e)
@@ -84,11 +84,11 @@ values-stable p k i (v ∷ vs) [] = none-stable
 -- ---- a program whose funs go wrong for some arguments alone
 
 module _ (count : ℕ) (keys : List Value) where
-  abbrev picky_apply : Value → List Value → ℕ → Run Value
+  abbrev pub picky_apply : Value → List Value → ℕ → Run Value
   picky_apply f args zero = still_going 0
   picky_apply f args (suc m) = cond (same_values args keys) (goes_wrong 0) (still_going 0)
 
-  abbrev picky : Program
+  abbrev pub picky : Program
   picky = record { apply = picky_apply; arity = λ f. count; specs = []; defs = given_definitions }
 
   picky-spends : Spends picky
