@@ -49,3 +49,5 @@ module _ (fits : Test) (function : ℕ) (specs : List FunSpec) where
   pub judge_kind-Call : (name : Name) (args : List (Node ExprKind)) (place : Place) (context : Context) → judge_kind fits function specs (X.Call None name args) place context ≡ and_then (judge_args args context) (λ js. call fits function specs place (arrows_of specs name (length js.types)) js)
   unfolding judge_kind
   judge_kind-Call name args place context = ap (λ k. judge_kind fits function specs k place context) (sym (X.rolls-Call None name args)) ∙ (ap (λ (f : Judges). f place context) (fold-roll-ExprKind Judges (Unit {0}) (Unit {0}) (Unit {0}) (Unit {0}) (Unit {0}) (judge_layer fits function specs) (λ i. tt) (λ q. tt) (λ a. tt) (λ c. tt) (λ c. tt) (E.Call None name args)) ∙ ap (λ (r : Context → Option JudgedAll). and_then (r context) (λ js. call fits function specs place (arrows_of specs name (length js.types)) js)) (judge_each args))
+
+pub ruleset judge_laws = (judge_kind-Int, judge_kind-Atom, judge_kind-Var, judge_kind-Paren, judge_kind-Binary, judge_kind-Call)
