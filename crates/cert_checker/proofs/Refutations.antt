@@ -1,16 +1,18 @@
 -- What is shown refutes: an element of the left term that isn't in the right one stands for a value of a program, so the left term isn't within the right one.
-use Rattle.std.proofs.Common.{◌≡◌, refl, subst, ℕ, ◌<◌, List, [], ◌∷◌, length, ◌↔◌, arith}
+use Rattle.std.proofs.Common.{◌≡◌, refl, sym, subst, ℕ, ◌<◌, List, [], ◌∷◌, length, ◌↔◌, arith}
 use Rattle.std.specs.Prelude.{Bool, true, false, cond, nat_eq}
-use Rattle.std.proofs.lemmas.Bool.{false≢true}
+use Rattle.std.proofs.lemmas.Bool.{false≢true, eq-eqb}
+use Rattle.std.proofs.Math.Path.{transport}
 use Rattle.type_terms.specs.declared.term.Def.{Def}
 use Rattle.type_terms.specs.declared.term.Key.{Key}
 use Rattle.type_terms.specs.declared.term.Key.TheVariants.{Int as IntKey, Atom as AtomKey}
-use Rattle.type_terms.specs.declared.term.Term.{Term, Any, None, Ints, AtomLit, AnyAtom, Nil, Cons', Tuple', AnyTuple, Map', Fun', AnyFun, Or', And', Not', Var, Name', Row_of-Term, end_of-Term, more_of-Term}
+use Rattle.type_terms.specs.declared.term.Term.{Term, And, Fun, Any, None, Ints, AtomLit, AnyAtom, Nil, Cons', Tuple', AnyTuple, Map', Fun', AnyFun, Or', And', Not', Var, Name', Row_of-Term, end_of-Term, more_of-Term}
 use Rattle.type_terms.specs.Definitions.{given_definitions}
 use Rattle.type_terms.specs.Instances.{Instance, no_variables, variable_and}
 use Rattle.type_terms.specs.Replacement.{terms_of}
 use Rattle.type_terms.specs.Unfolding.{unfolded}
 use Rattle.type_terms.specs.Reading
+use Rattle.type_terms.proofs.ReadingLaws.{read-And, read-Fun}
 use Rattle.type_terms.specs.Reading.{fun_layer, read}
 use Rattle.erl_tree.specs.Lists.{Every}
 use Rattle.erl_tree.specs.Value.{Value, integer, atom, named_fun}
@@ -19,7 +21,7 @@ use Rattle.erl_tree.specs.Running.{goes_wrong, still_going}
 use Rattle.cert_checker.specs.declared.refusal.Shown.{Shown}
 use Rattle.cert_checker.specs.declared.refusal.Shown.TheVariants.{One, Missing}
 use Rattle.cert_checker.specs.Constraints.{IsWithin}
-use Rattle.cert_checker.specs.Failures.{keys_in, ShownIn, Refutes}
+use Rattle.cert_checker.specs.Failures.{keys_in, shown_layer, ShownIn, Refutes}
 use Rattle.cert_checker.proofs.KeyTerms.{IsKey}
 use Rattle.cert_checker.proofs.Calls.{same_values, values-refl, values-are, picky, values_of, keys-values, values-of-keys}
 
@@ -113,3 +115,11 @@ key-fails (AtomKey a) left right h w = h.1 (w (failing []) no_variables 0 (atom 
 pub refuted-fails : (shown : Shown) (left right : Term) → Refutes shown left right → IsWithin left right → ⊥
 refuted-fails (One key) left right h w = key-fails key left right h w
 refuted-fails (Missing keys) left right h w = h.1 ((shown-is keys right).1 (w (failing keys) no_variables 1 (fun keys) tt ((shown-is keys left).0 h.0)))
+
+-- keys of the types of the arguments, not all of which are in the parameters, show that a call isn't within the function's spec
+pub call-refuted : (keys : List Key) (types params : List Term) (r R : Term) → length keys ≡ length params → keys_in keys types given_definitions no_variables → (keys_in keys params given_definitions no_variables → ⊥) → Refutes (Missing keys) (And (Fun params r ∷ [])) (Fun types R)
+call-refuted keys types params r R n x out =
+    let l : Reading.Layer = shown_layer (Missing keys) in (
+      transport (sym (read-And l no_tag given_definitions no_variables (Fun params r ∷ []))) (transport (sym (read-Fun l no_tag given_definitions no_variables params r)) (eq-eqb (length keys) (length params) n, out), tt),
+      (λ h. (transport (read-Fun l no_tag given_definitions no_variables types R) h).1 x),
+    )

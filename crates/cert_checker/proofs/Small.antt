@@ -1,10 +1,10 @@
 -- The small modules of the examples, by computing.
 use Rattle.std.proofs.Common.{◌≡◌, refl, sym, ◌∙◌, ap, subst, inl, inr, ℕ, ℤ, ◌+◌, ◌≤◌, ◌<◌, suc, List, [], ◌∷◌, ◌++◌, arith}
-use Rattle.std.specs.Prelude.{Bool, true, false, ◌&&◌, nat_le, nat_lt, pos, negsuc, codes, Option, Some, None, map, length, if◌then◌else◌}
+use Rattle.std.specs.Prelude.{Bool, true, false, ◌&&◌, nat_le, nat_lt, pos, negsuc, codes, Option, Some, map, if◌then◌else◌}
 use Rattle.std.specs.Option.{unwrap_or}
 use Rattle.std.proofs.lemmas.Bool.{and_parts, true≢false, false≢true}
 use Rattle.type_terms.specs.Keys.{Name, same_name}
-use Rattle.type_terms.specs.declared.term.Key.TheVariants.{Atom as AtomKey}
+use Rattle.type_terms.specs.declared.term.Key.TheVariants.{Int as IntKey, Atom as AtomKey}
 use Rattle.type_terms.specs.declared.term.Term.{Term, Any, Ints, AtomLit, And, Fun}
 use Rattle.type_terms.specs.declared.spec.Arrow.{Arrow}
 use Rattle.type_terms.specs.declared.spec.FunSpec.{FunSpec}
@@ -19,32 +19,31 @@ use Rattle.erl_tree.specs.declared.type_expr.TypeKind.{TypeKind}
 use Rattle.erl_tree.specs.declared.expr.BinaryOp.TheVariants.{Add, Sub}
 use Rattle.erl_tree.specs.declared.expr.ExprKind.{ExprKind}
 use Rattle.erl_tree.specs.declared.expr.ExprKind.TheVariants as E
-use Rattle.erl_tree.specs.declared.form.SpecKind.{SpecKind}
-use Rattle.erl_tree.specs.declared.form.SpecClauseKind.{SpecClauseKind}
 use Rattle.erl_tree.specs.Lists.{Every, Among, AreDistinct}
-use Rattle.erl_tree.specs.Spelling.{tokens_of, type_tokens, expr_tokens}
+use Rattle.erl_tree.specs.Spelling.{tokens_of}
 use Rattle.erl_tree.specs.Limits.{integer_limit, IsInLimit, HasIntegersInLimit, IsShallow, IsShallowType, type_depth, expr_depth}
-use Rattle.erl_tree.specs.Grammar.{IsType, one_type, use_type, atom_type, IsExpr, one_product, sum, one_operand, integer, atom, variable, call, last_argument, IsWellFormed}
+use Rattle.erl_tree.specs.Grammar.{IsType, one_type, use_type, atom_type, IsExpr, one_product, sum, IsOperand, one_operand, integer, atom, variable, call, last_argument, IsWellFormed}
 use Rattle.erl_tree.specs.Specs.{type_term, and_then, all_present, clause_arrow, arrows_arity, function_spec, read_specs, specs_of, spec_id}
 use Rattle.erl_tree.specs.Readable.{used_in, called_in, IsReadable, IsFlatModule}
 use Rattle.erl_tree.specs.Functions.{FunctionId, of_function, function_ids, functions_of}
 use Rattle.erl_tree.proofs.TreeLaws.{used_laws, called_laws, expr_depth_laws, expr_tokens_laws, type_tokens_laws, type_depth_laws, type_term_laws}
 use Rattle.cert_checker.specs.Examples as X
-use Rattle.cert_checker.specs.Examples.{place, leaf, integer_type, small_spec_clause, small_spec, first_forms, small_module, identity, constant, recursive_call, recursive, two_calls, second_call_wrong, integers, spec_to_integers, small_specs}
+use Rattle.cert_checker.specs.Examples.{place, leaf, integer_type, small_spec_clause, small_spec, small_module, identity, constant, recursive_call, recursive, two_calls, second_call_wrong, integers, spec_to_integers, small_specs}
 use Rattle.erl_tree.specs.Specs.{one_integer}
 use Rattle.erl_tree.specs.Value as V
 use Rattle.erl_tree.specs.Running
 use Rattle.erl_tree.specs.Running.{apply, apply_within, code_of, program_of}
+use Rattle.erl_tree.specs.Membership.{ends_well}
 use Rattle.erl_tree.specs.Safety.{IsRightRun, IsSafe}
 use Rattle.erl_tree.proofs.TreeLaws.{run_laws}
 use Rattle.cert_checker.specs.declared.refusal.Shown.TheVariants.{One, Missing}
 use Rattle.cert_checker.specs.declared.refusal.FirstRefusal.TheVariants.{Failed}
-use Rattle.cert_checker.specs.Constraints.{Test, FindsFits, Holds, IsWithin, owed_by_functions, owed_of}
-use Rattle.cert_checker.specs.Failures.{Refutes, IsFirstFailure, ShowsFirstFailure}
+use Rattle.cert_checker.specs.Constraints.{Test, Holds, IsWithin, owed_by_functions, owed_of}
+use Rattle.cert_checker.specs.Failures.{Refutes, ShowsFirstFailure}
 use Rattle.cert_checker.specs.Examples.{small_function}
 use Rattle.cert_checker.proofs.Calls.{call-within, within-same, within-any}
 use Rattle.cert_checker.proofs.JudgeLaws.{judge_laws}
-use Rattle.cert_checker.proofs.Refutations.{refuted-fails}
+use Rattle.cert_checker.proofs.Refutations.{refuted-fails, call-refuted}
 use Rattle.cert_checker.proofs.Safe.{holds-safe}
 use Rattle.cert_checker.proofs.Lists.{every-join}
 
@@ -228,11 +227,15 @@ pub arity-wrong : (apply (code_of identity []) (V.named_fun (codes "f") 2) (V.in
 unfolding apply_within
 arity-wrong = refl
 
+pub none-goes : (apply (code_of identity []) (V.named_fun (codes "f") 1) (V.integer (pos 7) ∷ []) 0).outcome ≡ V.going
+unfolding apply_within
+none-goes = refl
+
 constant-gives : (apply (code_of constant []) (V.named_fun (codes "f") 1) (V.integer (pos 7) ∷ []) 1).outcome ≡ V.came (V.atom (codes "a"))
 unfolding apply_within Rattle.erl_tree.specs.declared.type_expr.TypeKind.TheViews.out-TypeKind denote.Hole.Carrier.out Rattle.erl_tree.specs.declared.pattern.PatternKind.TheViews.out-PatternKind Rattle.erl_tree.specs.declared.expr.ExprKind.TheViews.out-ItemKind Rattle.erl_tree.specs.declared.expr.ExprKind.TheBlock.shown-the_row-ExprKind-0 denote.Hole.Carrier.shown denote.Hole.Carrier.hidden
 constant-gives = simp run_laws refl
 
-recursive-goes : (apply (code_of recursive []) (V.named_fun (codes "f") 1) (V.integer (pos 7) ∷ []) 2) ≡ record { outcome = V.going; left = 0; calls = record { name = codes "f"; args = V.integer (pos 7) ∷ []; left = 1 } ∷ record { name = codes "f"; args = V.integer (pos 6) ∷ []; left = 0 } ∷ [] }
+pub recursive-goes : (apply (code_of recursive []) (V.named_fun (codes "f") 1) (V.integer (pos 7) ∷ []) 2) ≡ record { outcome = V.going; left = 0; calls = record { name = codes "f"; args = V.integer (pos 7) ∷ []; left = 1 } ∷ record { name = codes "f"; args = V.integer (pos 6) ∷ []; left = 0 } ∷ [] }
 unfolding apply_within Running.then Rattle.erl_tree.specs.declared.type_expr.TypeKind.TheViews.out-TypeKind denote.Hole.Carrier.out Rattle.erl_tree.specs.declared.pattern.PatternKind.TheViews.out-PatternKind Rattle.erl_tree.specs.declared.expr.ExprKind.TheViews.out-ItemKind Rattle.erl_tree.specs.declared.expr.ExprKind.TheBlock.shown-the_row-ExprKind-0 denote.Hole.Carrier.shown denote.Hole.Carrier.hidden
 recursive-goes = simp run_laws refl
 
@@ -242,3 +245,157 @@ constant-not_safe h =
     let r : IsRightRun (program_of (code_of constant []) small_specs given_definitions) (apply (code_of constant []) (V.named_fun (codes "f") 1) (V.integer (pos 7) ∷ []) 1) integers no_variables =
     subst (λ (z : List FunSpec). IsSafe constant z given_definitions) (specs-are 10 (leaf 3 9 (E.Atom (codes "a")))) h [] (small_function (codes "f") 3 10 (codes "X") (leaf 3 9 (E.Atom (codes "a")))) (record { params = integers ∷ []; result = integers }) no_variables (V.integer (pos 7) ∷ []) 1 (inl refl) (0, omega arith, refl) tt (λ k. (refl, tt)) in
     r.value (V.atom (codes "a")) constant-gives 0
+
+-- ---- a module in which the second call is wrong
+
+abbrev both_specs : List FunSpec
+both_specs = spec_to_integers (codes "f") integers ∷ spec_to_integers (codes "g") (AtomLit (codes "a")) ∷ []
+
+abbrev both_ids : List FunctionId
+both_ids = of_function (codes "f") 1 ∷ of_function (codes "g") 1 ∷ []
+
+both-read : read_specs second_call_wrong ≡ Some both_specs
+both-read = λ j. and_then (spec-read (codes "f") 2 18 (integer_type 2 9) integers (integer-term 2 9) j) (λ a. and_then (and_then (spec-read (codes "g") 4 10 (X.atom_type 4 9) (AtomLit (codes "a")) (atom-term 4 9) j) (λ b. and_then (all_present []) (λ more. Some (b ∷ more)))) (λ more. Some (a ∷ more)))
+
+both-are : specs_of second_call_wrong ≡ both_specs
+unfolding specs_of
+both-are = ap (λ (o : Option (List FunSpec)). unwrap_or o []) both-read
+
+apart : of_function (codes "f") 1 ≡ of_function (codes "g") 1 → ⊥
+apart e = true≢false (ap (λ (id : FunctionId). same_name id.name (codes "f")) e)
+
+both-distinct : AreDistinct both_ids
+both-distinct = ((λ a. elim a [ inl e ↦ apart e | inr b ↦ b ]), ((λ a. a), tt))
+
+both-among : Every (λ id. Among id both_ids) both_ids
+both-among = (inl refl, (inr (inl refl), tt))
+
+limit-second : HasIntegersInLimit second_call_wrong
+unfolding tokens_of all_below below_limit Rattle.erl_tree.specs.declared.type_expr.TypeKind.TheViews.out-TypeKind denote.Hole.Carrier.out Rattle.erl_tree.specs.declared.pattern.PatternKind.TheViews.out-PatternKind Rattle.erl_tree.specs.declared.expr.ExprKind.TheViews.out-ItemKind Rattle.erl_tree.specs.declared.expr.ExprKind.TheBlock.shown-the_row-ExprKind-0 denote.Hole.Carrier.shown denote.Hole.Carrier.hidden
+limit-second = tokens-in_limit (tokens_of second_call_wrong) (simp (type_tokens_laws, expr_tokens_laws) refl)
+
+call-formed : (column : ℕ) (e : ExprKind) → IsExpr (leaf 5 (column + 2) e) → IsOperand (X.small_call column e)
+call-formed column e w = call (place 5 column) (place 5 (column + 1)) (place 5 (column + 3) ∷ []) (codes "f") (leaf 5 (column + 2) e ∷ []) (last_argument (leaf 5 (column + 2) e) (place 5 (column + 3)) w)
+
+two-formed : IsExpr two_calls
+two-formed = sum Add (X.small_call 9 (E.Int (pos 1))) (X.small_call 16 (E.Var (codes "Y"))) (place 5 14) tt
+    (one_product _ (one_operand _ (call-formed 9 (E.Int (pos 1)) (one_product _ (one_operand _ (integer (place 5 11) (pos 1)))))))
+    (one_operand _ (call-formed 16 (E.Var (codes "Y")) (one_product _ (one_operand _ (variable (place 5 18) (codes "Y"))))))
+
+two-depth : expr_depth two_calls ≡ 3
+two-depth = simp expr_depth_laws refl
+
+leaf-depth : expr_depth (leaf 3 9 (E.Var (codes "X"))) ≡ 1
+leaf-depth = simp expr_depth_laws refl
+
+atom-depth : (line column : ℕ) → type_depth (X.atom_type line column) ≡ 1
+atom-depth line column = simp type_depth_laws refl
+
+two-used : used_in two_calls.kind ≡ codes "Y" ∷ []
+two-used = simp used_laws refl
+
+two-called : called_in two_calls.kind ≡ of_function (codes "f") 1 ∷ of_function (codes "f") 1 ∷ []
+two-called = simp called_laws refl
+
+leaf-formed : IsExpr (leaf 3 9 (E.Var (codes "X")))
+leaf-formed = one_product _ (one_operand _ (variable (place 3 9) (codes "X")))
+
+second-formed : IsWellFormed second_call_wrong
+unfolding IsWellFormed Rattle.erl_tree.specs.declared.type_expr.TypeKind.TheViews.out-TypeKind denote.Hole.Carrier.out Rattle.erl_tree.specs.declared.pattern.PatternKind.TheViews.out-PatternKind Rattle.erl_tree.specs.declared.expr.ExprKind.TheViews.out-ItemKind Rattle.erl_tree.specs.declared.expr.ExprKind.TheBlock.shown-the_row-ExprKind-0 denote.Hole.Carrier.shown denote.Hole.Carrier.hidden
+second-formed = (
+  (refl, (refl, (integer-formed 2 9, tt), omega arith, tt, integer-formed 2 23, refl)),
+  ((refl, (refl, refl, (refl, tt), omega arith, tt, (refl, leaf-formed))),
+  ((refl, (refl, (atom-formed 4 9, tt), omega arith, tt, integer-formed 4 15, refl)),
+  ((refl, (refl, refl, (refl, tt), omega arith, tt, (refl, two-formed))), tt))),
+)
+
+second-readable : IsReadable second_call_wrong
+unfolding Rattle.erl_tree.specs.declared.type_expr.TypeKind.TheViews.out-TypeKind denote.Hole.Carrier.out Rattle.erl_tree.specs.declared.pattern.PatternKind.TheViews.out-PatternKind Rattle.erl_tree.specs.declared.expr.ExprKind.TheViews.out-ItemKind Rattle.erl_tree.specs.declared.expr.ExprKind.TheBlock.shown-the_row-ExprKind-0 denote.Hole.Carrier.shown denote.Hole.Carrier.hidden
+second-readable = record {
+  specs_read = both-read ∙ ap Some (sym both-are);
+  functions_distinct = both-distinct;
+  not_built_in = (refl, (refl, tt));
+  specs_distinct = subst (λ (z : List FunSpec). AreDistinct (map spec_id z)) (sym both-are) both-distinct;
+  specified = subst (λ (z : List FunSpec). Every (λ id. Among id (map spec_id z)) (function_ids second_call_wrong)) (sym both-are) both-among;
+  defined = subst (λ (z : List FunSpec). Every (λ id. Among id (function_ids second_call_wrong)) (map spec_id z)) (sym both-are) both-among;
+  scoped = ((simp used_laws (inl refl, tt), tt), ((simp used_laws (inl refl, tt), tt), tt));
+  calls_defined = (((simp called_laws tt, tt), tt), (((subst (λ z. Every (λ id. Among id both_ids) z) (sym two-called) (inl refl, (inl refl, tt)), tt), tt), tt));
+}
+
+second-shallow : IsShallow second_call_wrong
+unfolding Rattle.erl_tree.specs.declared.type_expr.TypeKind.TheViews.out-TypeKind denote.Hole.Carrier.out Rattle.erl_tree.specs.declared.pattern.PatternKind.TheViews.out-PatternKind Rattle.erl_tree.specs.declared.expr.ExprKind.TheViews.out-ItemKind Rattle.erl_tree.specs.declared.expr.ExprKind.TheBlock.shown-the_row-ExprKind-0 denote.Hole.Carrier.shown denote.Hole.Carrier.hidden
+second-shallow = (
+  (((shallow (integer_type 2 9) (integer-depth 2 9), tt), shallow (integer_type 2 23) (integer-depth 2 23)), tt),
+  (((omega (arith, leaf-depth), tt), tt),
+  ((((shallow (X.atom_type 4 9) (atom-depth 4 9), tt), shallow (integer_type 4 15) (integer-depth 4 15)), tt),
+  (((omega (arith, two-depth), tt), tt), tt))),
+)
+
+pub second-flat : IsFlatModule second_call_wrong
+unfolding Rattle.erl_tree.specs.declared.type_expr.TypeKind.TheViews.out-TypeKind denote.Hole.Carrier.out Rattle.erl_tree.specs.declared.pattern.PatternKind.TheViews.out-PatternKind Rattle.erl_tree.specs.declared.expr.ExprKind.TheViews.out-ItemKind Rattle.erl_tree.specs.declared.expr.ExprKind.TheBlock.shown-the_row-ExprKind-0 denote.Hole.Carrier.shown denote.Hole.Carrier.hidden
+second-flat = record { well_formed = second-formed; readable = second-readable; distinct_heads = ((((λ x. x), tt), tt), ((((λ x. x), tt), tt), tt)); shallow = second-shallow; in_limit = limit-second }
+
+pub second-wrong : (apply (code_of second_call_wrong []) (V.named_fun (codes "g") 1) (V.atom (codes "a") ∷ []) 3).outcome ≡ V.wrong
+unfolding apply_within Running.then Rattle.erl_tree.specs.declared.type_expr.TypeKind.TheViews.out-TypeKind denote.Hole.Carrier.out Rattle.erl_tree.specs.declared.pattern.PatternKind.TheViews.out-PatternKind Rattle.erl_tree.specs.declared.expr.ExprKind.TheViews.out-ItemKind Rattle.erl_tree.specs.declared.expr.ExprKind.TheBlock.shown-the_row-ExprKind-0 denote.Hole.Carrier.shown denote.Hole.Carrier.hidden
+second-wrong = simp run_laws refl
+
+wrong-good : (o : V.Outcome V.Value) (p : V.Value → Type 0) → o ≡ V.wrong → ends_well o p → ⊥
+wrong-good o p e h = subst (λ z. ends_well z p) e h
+
+pub second-not_safe : IsSafe second_call_wrong (specs_of second_call_wrong) given_definitions → ⊥
+unfolding Rattle.erl_tree.specs.declared.type_expr.TypeKind.TheViews.out-TypeKind denote.Hole.Carrier.out Rattle.erl_tree.specs.declared.pattern.PatternKind.TheViews.out-PatternKind Rattle.erl_tree.specs.declared.expr.ExprKind.TheViews.out-ItemKind Rattle.erl_tree.specs.declared.expr.ExprKind.TheBlock.shown-the_row-ExprKind-0 denote.Hole.Carrier.shown denote.Hole.Carrier.hidden
+second-not_safe h =
+    let r : IsRightRun (program_of (code_of second_call_wrong []) both_specs given_definitions) (apply (code_of second_call_wrong []) (V.named_fun (codes "g") 1) (V.atom (codes "a") ∷ []) 3) integers no_variables =
+    subst (λ (z : List FunSpec). IsSafe second_call_wrong z given_definitions) both-are h [] (small_function (codes "g") 5 20 (codes "Y") two_calls) (record { params = AtomLit (codes "a") ∷ []; result = integers }) no_variables (V.atom (codes "a") ∷ []) 3 (inr (inl refl)) (0, omega arith, refl) tt (λ k. (refl, tt)) in
+    wrong-good _ _ second-wrong r.good.0
+
+-- the type of the call with `a`, which a test decides
+abbrev type_of_second : Test → Term
+type_of_second fits = if fits (AtomLit (codes "a") ∷ []) (integers ∷ []) then integers else Any
+
+abbrev type_of_first : Test → Term
+type_of_first fits = if fits (one_integer (pos 1) ∷ []) (integers ∷ []) then integers else Any
+
+second-owes : (fits : Test) → owed_of fits second_call_wrong
+    ≡ record { function = 0; place = place 3 9; kind = ResultKind; left = integers; right = integers }
+    ∷ record { function = 1; place = place 5 9; kind = CallKind; left = And (Fun (integers ∷ []) integers ∷ []); right = Fun (one_integer (pos 1) ∷ []) (type_of_first fits) }
+    ∷ record { function = 1; place = place 5 16; kind = CallKind; left = And (Fun (integers ∷ []) integers ∷ []); right = Fun (AtomLit (codes "a") ∷ []) (type_of_second fits) }
+    ∷ record { function = 1; place = place 5 9; kind = OperandKind; left = type_of_first fits; right = integers }
+    ∷ record { function = 1; place = place 5 16; kind = OperandKind; left = type_of_second fits; right = integers }
+    ∷ record { function = 1; place = place 5 9; kind = ResultKind; left = integers; right = integers } ∷ []
+unfolding owed_of Rattle.erl_tree.specs.declared.type_expr.TypeKind.TheViews.out-TypeKind denote.Hole.Carrier.out Rattle.erl_tree.specs.declared.pattern.PatternKind.TheViews.out-PatternKind Rattle.erl_tree.specs.declared.expr.ExprKind.TheViews.out-ItemKind Rattle.erl_tree.specs.declared.expr.ExprKind.TheBlock.shown-the_row-ExprKind-0 denote.Hole.Carrier.shown denote.Hole.Carrier.hidden
+second-owes fits = ap (λ z. owed_by_functions fits 0 (functions_of second_call_wrong) z) both-are ∙ simp judge_laws refl
+
+second-refuted : (r : Term) → Refutes (Missing (AtomKey (codes "a") ∷ [])) (And (Fun (integers ∷ []) integers ∷ [])) (Fun (AtomLit (codes "a") ∷ []) r)
+second-refuted r = call-refuted (AtomKey (codes "a") ∷ []) (AtomLit (codes "a") ∷ []) (integers ∷ []) integers r refl (refl, tt) (λ h. h.0)
+
+within-choice : (b : Bool) → IsWithin integers (if b then integers else Any)
+within-choice true = within-same integers
+within-choice false = within-any integers
+
+-- `f(Y)` fails, whichever test of arguments is taken, and the fun that fails for `a` shows it
+pub second-failure : ShowsFirstFailure second_call_wrong (Failed 1 (place 5 16) CallKind (Missing (AtomKey (codes "a") ∷ [])))
+second-failure fits finds = (record {
+  before = record { function = 0; place = place 3 9; kind = ResultKind; left = integers; right = integers } ∷ record { function = 1; place = place 5 9; kind = CallKind; left = And (Fun (integers ∷ []) integers ∷ []); right = Fun (one_integer (pos 1) ∷ []) (type_of_first fits) } ∷ [];
+  left = And (Fun (integers ∷ []) integers ∷ []);
+  right = Fun (AtomLit (codes "a") ∷ []) (type_of_second fits);
+  after = _;
+  listed = second-owes fits;
+  earlier = (within-same integers, (call-within (one_integer (pos 1) ∷ []) (integers ∷ []) integers (type_of_first fits) (within-integers (Some (pos 1)) (Some (pos 1)), tt) (within-choice (fits (one_integer (pos 1) ∷ []) (integers ∷ []))), tt));
+  fails = refuted-fails (Missing (AtomKey (codes "a") ∷ [])) (And (Fun (integers ∷ []) integers ∷ [])) (Fun (AtomLit (codes "a") ∷ []) (type_of_second fits)) (second-refuted (type_of_second fits));
+  refuted = second-refuted (type_of_second fits);
+}, omega arith)
+
+-- ---- ranges
+
+pub range-term : type_term X.range_type ≡ Some X.one_to_three
+range-term = simp type_term_laws refl
+
+pub range-within : IsWithin X.one_to_three integers
+range-within = within-integers (Some (pos 1)) (Some (pos 3))
+
+range-refuted : Refutes (One (IntKey (pos 4))) integers X.one_to_three
+range-refuted = (refl, λ h. false≢true h)
+
+pub range-not_all : IsWithin integers X.one_to_three → ⊥
+range-not_all w = refuted-fails (One (IntKey (pos 4))) integers X.one_to_three range-refuted w

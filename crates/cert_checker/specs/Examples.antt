@@ -1,7 +1,6 @@
 -- Small modules named `a` for the examples, each form on a line of its own: `-spec f(integer()) -> integer().` and `f(X) -> E.` with an expression E, and the same for a second function.
 use Rattle.std.specs.Prelude.{ℕ, ◌+◌, pos, List, [], ◌∷◌, ◌++◌, None, Some, codes}
-use Rattle.type_terms.specs.declared.term.Term.{Term, Ints, AtomLit}
-use Rattle.type_terms.specs.declared.spec.Arrow.{Arrow}
+use Rattle.type_terms.specs.declared.term.Term.{Term, Ints}
 use Rattle.type_terms.specs.declared.spec.FunSpec.{FunSpec}
 use Rattle.type_terms.specs.Keys.{Name}
 use Rattle.erl_tree.specs.declared.token.Place.{Place}
