@@ -112,9 +112,13 @@ pub call-takes : (types params : List Term) (r R : Term) → Every IsOfKeys type
 call-takes types params r R tk pk w p k i vs x = values-stable p k i vs params (λ out.
     let Q : Program = picky (length params) vs in
     let f : Value = named_fun [] 0 in
-    let given : InTerm Q 1 f (Fun params r) given_definitions no_variables = (in-Fun-iff Q (picky-spends (length params) vs) 1 given_definitions no_variables params r f).1 (tt, refl, (λ m args l a.
-    spared (length params) vs r no_variables (same_values args vs) (λ e.
-    out (values-moved params pk Q p m k no_variables i vs (subst (λ z. values_in (InTerm Q m) z params given_definitions no_variables) (values-are args vs (values-keys types tk p k i vs x) e) a))))) in
+    let given : InTerm Q 1 f (Fun params r) given_definitions no_variables = (in-Fun-iff Q (picky-spends (length params) vs) 1 given_definitions no_variables params r f).1 (
+      tt,
+      refl,
+      (λ m args l a.
+          spared (length params) vs r no_variables (same_values args vs) (λ e.
+          out (values-moved params pk Q p m k no_variables i vs (subst (λ z. values_in (InTerm Q m) z params given_definitions no_variables) (values-are args vs (values-keys types tk p k i vs x) e) a)))),
+    ) in
     let both : InTerm Q 1 f (And (Fun params r ∷ [])) given_definitions no_variables = (in-And Q 1 given_definitions no_variables f (Fun params r ∷ [])).1 (λ t c. single Q f t (Fun params r) c given) in
     let taken : IsFun f × (Q.arity f ≡ length types) × ((m : ℕ) (args : List Value) → m < 1 → values_in (InTerm Q m) args types given_definitions no_variables → IsGoodRun Q (Q.apply f args (suc m)) R given_definitions no_variables) =
     (in-Fun-iff Q (picky-spends (length params) vs) 1 given_definitions no_variables types R f).0 (w Q no_variables 1 f tt both) in

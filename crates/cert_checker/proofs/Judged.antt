@@ -80,7 +80,7 @@ judged-at : (o q : Option Judged) → o ≡ q → IsJudged q → IsJudged o
 judged-at o q e h = (h.0, e ∙ h.1, h.2)
 
 module _ (fits : Test) (number : ℕ) (specs : List FunSpec) (context : Context) (bound : List Name) (ids : List FunctionId) (typed : (x : Name) → Among x bound → (u : Term) × (context x ≡ Some u))
-  (arrows : (name : Name) (arity : ℕ) → Among (of_function name arity) ids → (arrow : Arrow) × (arrows_of specs name arity ≡ arrow ∷ [])) where
+    (arrows : (name : Name) (arity : ℕ) → Among (of_function name arity) ids → (arrow : Arrow) × (arrows_of specs name arity ≡ arrow ∷ [])) where
   -- each variable is bound, and each function is one of these
   abbrev pub IsNamed : List Name → List FunctionId → Type 0
   IsNamed used called = Every (λ x. Among x bound) used × Every (λ id. Among id ids) called
@@ -114,7 +114,7 @@ module _ (fits : Test) (number : ℕ) (specs : List FunSpec) (context : Context)
   args-more e es h k = (
     record { types = h.0.type ∷ k.0.types; owed = h.0.owed ++ k.0.owed },
     ap (λ z. and_then z (λ j. and_then (judge_args fits number specs es context) (λ js. Some (record { types = j.type ∷ js.types; owed = j.owed ++ js.owed })))) h.1
-    ∙ ap (λ z. and_then z (λ (js : JudgedAll). Some (record { types = h.0.type ∷ js.types; owed = h.0.owed ++ js.owed }))) k.1,
+        ∙ ap (λ z. and_then z (λ (js : JudgedAll). Some (record { types = h.0.type ∷ js.types; owed = h.0.owed ++ js.owed }))) k.1,
     ap suc k.2,
     no-results h.0.owed k.0.owed h.2 k.3,
   )

@@ -197,8 +197,8 @@ module _ (program : Program) where
   -- ---- expressions
 
   module _ (number : ℕ) (specs : List FunSpec) (keyed : (name : Name) (arity : ℕ) (arrow : Arrow) → Contains (arrows_of specs name arity) arrow → IsArrowOfKeys arrow) (apply : Applies)
-    (called : (name : Name) (arrow : Arrow) (vs : List Value) (steps : ℕ) → arrows_of specs name (length vs) ≡ arrow ∷ [] → AreHeld vs arrow.params → GoodRun Value (λ v. Held v arrow.result) (apply (named_fun name (length vs)) vs steps))
-    (context : Context) (environment : Environment) (owns : (x : Name) (t : Term) → context x ≡ Some t → IsOfKeys t × (v : Value) × (variable_value environment x ≡ Some v) × Held v t) where
+      (called : (name : Name) (arrow : Arrow) (vs : List Value) (steps : ℕ) → arrows_of specs name (length vs) ≡ arrow ∷ [] → AreHeld vs arrow.params → GoodRun Value (λ v. Held v arrow.result) (apply (named_fun name (length vs)) vs steps))
+      (context : Context) (environment : Environment) (owns : (x : Name) (t : Term) → context x ≡ Some t → IsOfKeys t × (v : Value) × (variable_value environment x ≡ Some v) × Held v t) where
     -- the type is of keys, and where what is owed holds, each run is good for it
     record Sound (e : ExprKind) (j : Judged) : Type 0 where
       keys : IsOfKeys j.type
@@ -238,12 +238,12 @@ module _ (program : Program) where
         (record {
           keys = ints-keys None None;
           good = λ h steps.
-            let h1 : Every Holds x.0.owed × Every Holds (y.0.owed ++ operand always number specs a.place x.0.type ∷ operand always number specs b.place y.0.type ∷ []) = every-split Holds x.0.owed _ h in
-            let h2 : Every Holds y.0.owed × Every Holds (operand always number specs a.place x.0.type ∷ operand always number specs b.place y.0.type ∷ []) = every-split Holds y.0.owed _ h1.1 in
-            subst (λ z. GoodRun Value IsInteger z) (sym (run_kind-Binary apply op a b environment steps))
-            (then-good (λ v. Held v x.0.type) IsInteger (run_expression apply a environment steps) _ (s.good h1.0 steps) (λ v left hv.
-            then-good (λ w. Held w y.0.type) IsInteger (run_expression apply b environment left) _ (t.good h2.0 left) (λ w rest hw.
-            operates op o v w rest (held-within x.0.type integers h2.1.0 v hv) (held-within y.0.type integers h2.1.1.0 w hw))));
+              let h1 : Every Holds x.0.owed × Every Holds (y.0.owed ++ operand always number specs a.place x.0.type ∷ operand always number specs b.place y.0.type ∷ []) = every-split Holds x.0.owed _ h in
+              let h2 : Every Holds y.0.owed × Every Holds (operand always number specs a.place x.0.type ∷ operand always number specs b.place y.0.type ∷ []) = every-split Holds y.0.owed _ h1.1 in
+              subst (λ z. GoodRun Value IsInteger z) (sym (run_kind-Binary apply op a b environment steps))
+              (then-good (λ v. Held v x.0.type) IsInteger (run_expression apply a environment steps) _ (s.good h1.0 steps) (λ v left hv.
+              then-good (λ w. Held w y.0.type) IsInteger (run_expression apply b environment left) _ (t.good h2.0 left) (λ w rest hw.
+              operates op o v w rest (held-within x.0.type integers h2.1.0 v hv) (held-within y.0.type integers h2.1.1.0 w hw))));
         })
 
     held-length : (vs : List Value) (ts : List Term) → AreHeld vs ts → length vs ≡ length ts
@@ -268,10 +268,10 @@ module _ (program : Program) where
             (record {
               keys = k.1;
               good = λ h steps.
-                let hs : Every Holds js.owed × Every Holds (record { function = number; place = place; kind = CallKind; left = And (Fun arrow.params arrow.result ∷ []); right = Fun js.types arrow.result } ∷ []) = every-split Holds js.owed _ h in
-                subst (λ z. GoodRun Value (λ v. Held v arrow.result) z) (sym (run_kind-Call apply name args environment steps))
-                (then-good (λ vs. AreHeld vs js.types) (λ v. Held v arrow.result) (run_args apply args environment steps) _ (s.good hs.0 steps) (λ vs left hv.
-                called name arrow vs left (ap (arrows_of specs name) (held-length vs js.types hv) ∙ e) (call-takes js.types arrow.params arrow.result arrow.result s.keys k.0 hs.1.0 program 0 no_variables vs hv)));
+                  let hs : Every Holds js.owed × Every Holds (record { function = number; place = place; kind = CallKind; left = And (Fun arrow.params arrow.result ∷ []); right = Fun js.types arrow.result } ∷ []) = every-split Holds js.owed _ h in
+                  subst (λ z. GoodRun Value (λ v. Held v arrow.result) z) (sym (run_kind-Call apply name args environment steps))
+                  (then-good (λ vs. AreHeld vs js.types) (λ v. Held v arrow.result) (run_args apply args environment steps) _ (s.good hs.0 steps) (λ vs left hv.
+                  called name arrow vs left (ap (arrows_of specs name) (held-length vs js.types hv) ∙ e) (call-takes js.types arrow.params arrow.result arrow.result s.keys k.0 hs.1.0 program 0 no_variables vs hv)));
             })
 
     args-none : ArgsSound []
@@ -287,9 +287,9 @@ module _ (program : Program) where
         (record {
           keys = (s.keys, t.keys);
           good = λ h steps.
-            let hs : Every Holds x.0.owed × Every Holds y.0.owed = every-split Holds x.0.owed y.0.owed h in
-            then-good (λ v. Held v x.0.type) (λ vs. AreHeld vs (x.0.type ∷ y.0.types)) (run_expression apply e environment steps) _ (s.good hs.0 steps) (λ v left hv.
-            then-good (λ vs. AreHeld vs y.0.types) (λ vs. AreHeld vs (x.0.type ∷ y.0.types)) (run_args apply es environment left) _ (t.good hs.1 left) (λ vs rest hvs. record { ends = (hv, hvs); calls = tt }));
+              let hs : Every Holds x.0.owed × Every Holds y.0.owed = every-split Holds x.0.owed y.0.owed h in
+              then-good (λ v. Held v x.0.type) (λ vs. AreHeld vs (x.0.type ∷ y.0.types)) (run_expression apply e environment steps) _ (s.good hs.0 steps) (λ v left hv.
+              then-good (λ vs. AreHeld vs y.0.types) (λ vs. AreHeld vs (x.0.type ∷ y.0.types)) (run_args apply es environment left) _ (t.good hs.1 left) (λ vs rest hvs. record { ends = (hv, hvs); calls = tt }));
         })
 
     additive : (op : BinaryOp) → IsAdditive op → (op ≡ Add) ⊎ ((op ≡ Sub) ⊎ (op ≡ Mul))

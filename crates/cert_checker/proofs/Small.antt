@@ -304,9 +304,13 @@ second-formed : IsWellFormed second_call_wrong
 unfolding IsWellFormed Rattle.erl_tree.specs.declared.type_expr.TypeKind.TheViews.out-TypeKind denote.Hole.Carrier.out Rattle.erl_tree.specs.declared.pattern.PatternKind.TheViews.out-PatternKind Rattle.erl_tree.specs.declared.expr.ExprKind.TheViews.out-ItemKind Rattle.erl_tree.specs.declared.expr.ExprKind.TheBlock.shown-the_row-ExprKind-0 denote.Hole.Carrier.shown denote.Hole.Carrier.hidden
 second-formed = (
   (refl, (refl, (integer-formed 2 9, tt), omega arith, tt, integer-formed 2 23, refl)),
-  ((refl, (refl, refl, (refl, tt), omega arith, tt, (refl, leaf-formed))),
-  ((refl, (refl, (atom-formed 4 9, tt), omega arith, tt, integer-formed 4 15, refl)),
-  ((refl, (refl, refl, (refl, tt), omega arith, tt, (refl, two-formed))), tt))),
+  (
+    (refl, (refl, refl, (refl, tt), omega arith, tt, (refl, leaf-formed))),
+    (
+      (refl, (refl, (atom-formed 4 9, tt), omega arith, tt, integer-formed 4 15, refl)),
+      ((refl, (refl, refl, (refl, tt), omega arith, tt, (refl, two-formed))), tt),
+    ),
+  ),
 )
 
 second-readable : IsReadable second_call_wrong
@@ -326,9 +330,13 @@ second-shallow : IsShallow second_call_wrong
 unfolding Rattle.erl_tree.specs.declared.type_expr.TypeKind.TheViews.out-TypeKind denote.Hole.Carrier.out Rattle.erl_tree.specs.declared.pattern.PatternKind.TheViews.out-PatternKind Rattle.erl_tree.specs.declared.expr.ExprKind.TheViews.out-ItemKind Rattle.erl_tree.specs.declared.expr.ExprKind.TheBlock.shown-the_row-ExprKind-0 denote.Hole.Carrier.shown denote.Hole.Carrier.hidden
 second-shallow = (
   (((shallow (integer_type 2 9) (integer-depth 2 9), tt), shallow (integer_type 2 23) (integer-depth 2 23)), tt),
-  (((omega (arith, leaf-depth), tt), tt),
-  ((((shallow (X.atom_type 4 9) (atom-depth 4 9), tt), shallow (integer_type 4 15) (integer-depth 4 15)), tt),
-  (((omega (arith, two-depth), tt), tt), tt))),
+  (
+    ((omega (arith, leaf-depth), tt), tt),
+    (
+      (((shallow (X.atom_type 4 9) (atom-depth 4 9), tt), shallow (integer_type 4 15) (integer-depth 4 15)), tt),
+      (((omega (arith, two-depth), tt), tt), tt),
+    ),
+  ),
 )
 
 pub second-flat : IsFlatModule second_call_wrong
@@ -375,16 +383,19 @@ within-choice false = within-any integers
 
 -- `f(Y)` fails, whichever test of arguments is taken, and the fun that fails for `a` shows it
 pub second-failure : ShowsFirstFailure second_call_wrong (Failed 1 (place 5 16) CallKind (Missing (AtomKey (codes "a") ∷ [])))
-second-failure fits finds = (record {
-  before = record { function = 0; place = place 3 9; kind = ResultKind; left = integers; right = integers } ∷ record { function = 1; place = place 5 9; kind = CallKind; left = And (Fun (integers ∷ []) integers ∷ []); right = Fun (one_integer (pos 1) ∷ []) (type_of_first fits) } ∷ [];
-  left = And (Fun (integers ∷ []) integers ∷ []);
-  right = Fun (AtomLit (codes "a") ∷ []) (type_of_second fits);
-  after = _;
-  listed = second-owes fits;
-  earlier = (within-same integers, (call-within (one_integer (pos 1) ∷ []) (integers ∷ []) integers (type_of_first fits) (within-integers (Some (pos 1)) (Some (pos 1)), tt) (within-choice (fits (one_integer (pos 1) ∷ []) (integers ∷ []))), tt));
-  fails = refuted-fails (Missing (AtomKey (codes "a") ∷ [])) (And (Fun (integers ∷ []) integers ∷ [])) (Fun (AtomLit (codes "a") ∷ []) (type_of_second fits)) (second-refuted (type_of_second fits));
-  refuted = second-refuted (type_of_second fits);
-}, omega arith)
+second-failure fits finds = (
+  record {
+    before = record { function = 0; place = place 3 9; kind = ResultKind; left = integers; right = integers } ∷ record { function = 1; place = place 5 9; kind = CallKind; left = And (Fun (integers ∷ []) integers ∷ []); right = Fun (one_integer (pos 1) ∷ []) (type_of_first fits) } ∷ [];
+    left = And (Fun (integers ∷ []) integers ∷ []);
+    right = Fun (AtomLit (codes "a") ∷ []) (type_of_second fits);
+    after = _;
+    listed = second-owes fits;
+    earlier = (within-same integers, (call-within (one_integer (pos 1) ∷ []) (integers ∷ []) integers (type_of_first fits) (within-integers (Some (pos 1)) (Some (pos 1)), tt) (within-choice (fits (one_integer (pos 1) ∷ []) (integers ∷ []))), tt));
+    fails = refuted-fails (Missing (AtomKey (codes "a") ∷ [])) (And (Fun (integers ∷ []) integers ∷ [])) (Fun (AtomLit (codes "a") ∷ []) (type_of_second fits)) (second-refuted (type_of_second fits));
+    refuted = second-refuted (type_of_second fits);
+  },
+  omega arith,
+)
 
 -- ---- ranges
 
