@@ -50,14 +50,14 @@ fn calls_only_defined(
             if !defined {
                 return Ok(false);
             }
-            all_call_only_defined(alloc, table, args.as_slice())
+            expressions_call_only_defined(alloc, table, args.as_slice())
         }
         _ => Ok(true),
     }
 }
 
 #[cycle(called)]
-fn all_call_only_defined(
+fn expressions_call_only_defined(
     alloc: Global,
     table: &FunctionTable,
     expressions: &[Expr],
@@ -65,15 +65,19 @@ fn all_call_only_defined(
     ensures { IfOk result (λ answer. IsTrue answer ↔ Every (ExpressionCallsOnly (ids table.now)) expressions.now) }
 {
     for expression in expressions {
-        let right = calls_only_defined(alloc, table, expression.kind.get())?;
-        if !right {
+        let defined = calls_only_defined(alloc, table, expression.kind.get())?;
+        if !defined {
             return Ok(false);
         }
     }
     Ok(true)
 }
 
-fn is_right_item(alloc: Global, table: &FunctionTable, item: &Item) -> Result<bool, NoMemory>
+fn item_calls_only_defined(
+    alloc: Global,
+    table: &FunctionTable,
+    item: &Item,
+) -> Result<bool, NoMemory>
     ensures { IfOk result (λ answer. IsTrue answer ↔ ItemCallsOnly (ids table.now) item.now) }
 {
     match item.kind.get() {
@@ -82,25 +86,33 @@ fn is_right_item(alloc: Global, table: &FunctionTable, item: &Item) -> Result<bo
     }
 }
 
-fn is_right_body(alloc: Global, table: &FunctionTable, body: &[Item]) -> Result<bool, NoMemory>
+fn body_calls_only_defined(
+    alloc: Global,
+    table: &FunctionTable,
+    body: &[Item],
+) -> Result<bool, NoMemory>
     ensures { IfOk result (λ answer. IsTrue answer ↔ Every (ItemCallsOnly (ids table.now)) body.now) }
 {
     for item in body {
-        let right = is_right_item(alloc, table, item)?;
-        if !right {
+        let defined = item_calls_only_defined(alloc, table, item)?;
+        if !defined {
             return Ok(false);
         }
     }
     Ok(true)
 }
 
-fn is_right_clause(alloc: Global, table: &FunctionTable, clause: &Clause) -> Result<bool, NoMemory>
+fn clause_calls_only_defined(
+    alloc: Global,
+    table: &FunctionTable,
+    clause: &Clause,
+) -> Result<bool, NoMemory>
     ensures { IfOk result (λ answer. IsTrue answer ↔ CallsOnly (ids table.now) clause.now) }
 {
-    is_right_body(alloc, table, clause.kind.get().body.as_slice())
+    body_calls_only_defined(alloc, table, clause.kind.get().body.as_slice())
 }
 
-fn are_right_clauses(
+fn clauses_call_only_defined(
     alloc: Global,
     table: &FunctionTable,
     clauses: &[Clause],
@@ -108,27 +120,31 @@ fn are_right_clauses(
     ensures { IfOk result (λ answer. IsTrue answer ↔ Every (CallsOnly (ids table.now)) clauses.now) }
 {
     for clause in clauses {
-        let right = is_right_clause(alloc, table, clause)?;
-        if !right {
+        let defined = clause_calls_only_defined(alloc, table, clause)?;
+        if !defined {
             return Ok(false);
         }
     }
     Ok(true)
 }
 
-fn is_right_form(alloc: Global, table: &FunctionTable, form: &TreeForm) -> Result<bool, NoMemory>
+fn form_calls_only_defined(
+    alloc: Global,
+    table: &FunctionTable,
+    form: &TreeForm,
+) -> Result<bool, NoMemory>
     ensures { IfOk result (λ answer. IsTrue answer ↔ FormCallsOnly (ids table.now) form.now) }
 {
     match form {
         TreeForm::Function(function) => {
-            are_right_clauses(alloc, table, function.clauses.as_slice())
+            clauses_call_only_defined(alloc, table, function.clauses.as_slice())
         }
         _ => Ok(true),
     }
 }
 
 /// Whether each function that forms call is in the table of definitions.
-pub fn has_defined_calls(
+pub fn forms_call_only_defined(
     alloc: Global,
     table: &FunctionTable,
     forms: &[TreeForm],
@@ -136,8 +152,8 @@ pub fn has_defined_calls(
     ensures { IfOk result (λ answer. IsTrue answer ↔ Every (FormCallsOnly (ids table.now)) forms.now) }
 {
     for form in forms {
-        let right = is_right_form(alloc, table, form)?;
-        if !right {
+        let defined = form_calls_only_defined(alloc, table, form)?;
+        if !defined {
             return Ok(false);
         }
     }

@@ -8,7 +8,7 @@ ghost use Rattle.function_table.specs.Table.{ids};
 ghost use Rattle.erl_scope.specs.Names as names;
 ghost use Rattle.erl_scope.specs.Names.{listed, names_in, IsNamedAmong, HasMatchingNames};
 
-use crate::calls::has_defined_calls;
+use crate::calls::forms_call_only_defined;
 use erl_tree::TreeForm;
 use function_table::FunctionTable;
 use std::alloc::Global;
@@ -122,5 +122,5 @@ pub fn has_matching_names(alloc: Global, forms: &[TreeForm]) -> Result<bool, NoM
     if !defined {
         return Ok(false);
     }
-    has_defined_calls(alloc, &definitions, forms)
+    forms_call_only_defined(alloc, &definitions, forms)
 }

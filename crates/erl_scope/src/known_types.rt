@@ -15,15 +15,16 @@ fn is_type_name(name: &Text) -> bool
     is_text(name, b"integer") || is_text(name, b"atom")
 }
 
-/// Whether a type is a built-in one, without a prefix and arguments.
+/// Whether a type is built in, without a prefix and without arguments.
 fn is_known_use(prefix: &Option<Text>, name: &Text, args: &List<TypeExpr>) -> bool
     ensures { IsTrue result ↔ IsSome (use_term prefix.now name.now args.now) }
 {
     prefix.is_none() && args.is_empty() && is_type_name(name)
 }
 
-/// Whether a range has ends that are integers, and the lower one is not above the upper one. A sum
-/// that saturates has the sign of the sum.
+/// Whether a range has ends that are integers, and the lower one is not above the upper one. An end
+/// with a minus sign is compared to one without by their sum, which keeps its sign where it
+/// saturates.
 fn is_range(low: &Literal, high: &Literal) -> bool
     ensures { IsTrue result ↔ IsSome (range_term low.now.kind high.now.kind) }
 {

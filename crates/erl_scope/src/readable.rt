@@ -12,9 +12,10 @@ use std::alloc::Global;
 use type_terms::NoMemory;
 
 /// Whether names are used rightly in a well-formed module: each spec has known types, no function
-/// is built in or defined twice, each has one spec and each spec a function, and variables are
-/// distinct in each head and bound where they are used (Erlang Reference Manual, "Functions",
-/// "Types and Function Specifications", "Variables").
+/// is built in or defined twice, each has one spec and each spec a function, variables are distinct
+/// in each head and bound where they are used, and each call is of a function of the module (Erlang
+/// Reference Manual, "Functions", "Types and Function Specifications", "Variables", "Function
+/// Calls").
 ///
 /// # Errors
 ///

@@ -8,21 +8,21 @@ use Rattle.erl_scope.proofs.Parts.{of_same}
 use Rattle.erl_scope.proofs.DefinedCalls.{called_in_parens, called_by_operands, unknown_by_operand, called_outside, unknown_call, known_call}
 use Rattle.erl_scope.proofs.calls.+called.Goals as goal
 
-pub all_call_only_defined-loop-expression-init : goal.all_call_only_defined-loop-expression-init
-all_call_only_defined-loop-expression-init t c = left_first (ExpressionCallsOnly (ids c.args.table.now)) c.args.expressions.now
+pub expressions_call_only_defined-loop-expression-init : goal.expressions_call_only_defined-loop-expression-init
+expressions_call_only_defined-loop-expression-init t c = left_first (ExpressionCallsOnly (ids c.args.table.now)) c.args.expressions.now
 
-pub all_call_only_defined-returns-then-not-right : goal.all_call_only_defined-returns-then-not-right
-all_call_only_defined-returns-then-not-right t c =
-    unmet (ExpressionCallsOnly (ids c.args.table.now)) c.args.expressions.now _ _ c.in_ok-right.right c.loop-expression-test.true c.expression-item.is
-    (of_same (λ id. Among id (ids c.args.table.now)) c.in_ok-right.right _ _ (ap called_in (sym c.get.ensures)) c.in_ok-right.ensures) c.if-not-right.true
+pub expressions_call_only_defined-returns-then-not-defined : goal.expressions_call_only_defined-returns-then-not-defined
+expressions_call_only_defined-returns-then-not-defined t c =
+    unmet (ExpressionCallsOnly (ids c.args.table.now)) c.args.expressions.now _ _ c.in_ok-defined.defined c.loop-expression-test.true c.expression-item.is
+    (of_same (λ id. Among id (ids c.args.table.now)) c.in_ok-defined.defined _ _ (ap called_in (sym c.get.ensures)) c.in_ok-defined.ensures) c.if-not-defined.true
 
-pub all_call_only_defined-loop-expression-preserved : goal.all_call_only_defined-loop-expression-preserved
-all_call_only_defined-loop-expression-preserved t c =
+pub expressions_call_only_defined-loop-expression-preserved : goal.expressions_call_only_defined-loop-expression-preserved
+expressions_call_only_defined-loop-expression-preserved t c =
     left_next (ExpressionCallsOnly (ids c.args.table.now)) c.args.expressions.now _ _ c.loop-expression-test.true c.expression-item.is
-    ((of_same (λ id. Among id (ids c.args.table.now)) c.in_ok-right.right _ _ (ap called_in (sym c.get.ensures)) c.in_ok-right.ensures).0 c.if-not-right.false) c.loop-expression.invariant
+    ((of_same (λ id. Among id (ids c.args.table.now)) c.in_ok-defined.defined _ _ (ap called_in (sym c.get.ensures)) c.in_ok-defined.ensures).0 c.if-not-defined.false) c.loop-expression.invariant
 
-pub all_call_only_defined-returns : goal.all_call_only_defined-returns
-all_call_only_defined-returns t c = met (ExpressionCallsOnly (ids c.args.table.now)) c.args.expressions.now c.loop-expression.expression-index (omega arith) c.loop-expression.invariant
+pub expressions_call_only_defined-returns : goal.expressions_call_only_defined-returns
+expressions_call_only_defined-returns t c = met (ExpressionCallsOnly (ids c.args.table.now)) c.args.expressions.now c.loop-expression.expression-index (omega arith) c.loop-expression.invariant
 
 pub calls_only_defined-returns-in-Paren : goal.calls_only_defined-returns-in-Paren
 calls_only_defined-returns-in-Paren t c = called_in_parens (ids c.args.table.now) c.args.kind.now c.in-Paren.inner c.get.result.now c.calls_only_defined.result c.in-Paren.is c.get.ensures c.calls_only_defined.ensures
@@ -49,4 +49,4 @@ calls_only_defined-returns-then-not-defined t c =
 pub calls_only_defined-returns-else-not-defined : goal.calls_only_defined-returns-else-not-defined
 calls_only_defined-returns-else-not-defined t c =
     known_call (ids c.args.table.now) c.args.kind.now c.in-Call.prefix c.in-Call.name c.in-Call.args c.in-Call.is c.is_some.result c.is_some.ensures c.if-is_some.false c.len.result c.len.ensures
-    c.in_ok-defined-in-Call.defined c.in_ok-defined-in-Call.ensures c.as_slice.result.now c.all_call_only_defined.result c.if-not-defined.false c.as_slice.ensures c.all_call_only_defined.ensures
+    c.in_ok-defined-in-Call.defined c.in_ok-defined-in-Call.ensures c.as_slice.result.now c.expressions_call_only_defined.result c.if-not-defined.false c.as_slice.ensures c.expressions_call_only_defined.ensures

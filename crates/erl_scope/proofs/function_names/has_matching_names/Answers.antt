@@ -26,4 +26,4 @@ returns c =
     made_table Definition c.args.forms.now c.in_ok-definitions.field-0 c.in-Some.definitions c.in-Some.is c.in_ok-definitions.ensures in
     matching_if_ok c.args.forms.now (ids c.in-Some-2.specs) specs.0 c.in_ok-specified.specified c.in_ok-specified.ensures
     (ids c.in-Some.definitions) definitions.0 c.in_ok-defined.defined c.in_ok-defined.ensures
-    definitions.1 specs.1 c.if-not-specified.false c.if-not-defined.false c.has_defined_calls.result c.has_defined_calls.ensures
+    definitions.1 specs.1 c.if-not-specified.false c.if-not-defined.false c.forms_call_only_defined.result c.forms_call_only_defined.ensures
