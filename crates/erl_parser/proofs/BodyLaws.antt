@@ -5,7 +5,7 @@ use Rattle.erl_tree.specs.declared.token.Node.{Node}
 use Rattle.erl_tree.specs.declared.expr.ExprKind.{ExprKind}
 use Rattle.erl_tree.specs.declared.expr.ItemKind.{ItemKind}
 use Rattle.erl_tree.specs.declared.expr.ItemKind.TheVariants as I
-use Rattle.erl_tree.specs.Spelling.{expr_tokens, body_tokens}
+use Rattle.erl_tree.specs.Spelling.{body_tokens}
 use Rattle.erl_tree.specs.Grammar.{node, IsBody}
 use Rattle.erl_tree.specs.Limits.{expr_depth}
 use Rattle.erl_parser.specs.Reading.{read_expr, read_body}
@@ -13,7 +13,7 @@ use Rattle.erl_parser.proofs.TokenLaws.{bind_some, pair_is}
 use Rattle.erl_parser.proofs.PartLaws.{Again, Takes, taken}
 use Rattle.erl_parser.proofs.Shapes.{BodyShape, value, body_shape, body_tokens-value, is_body-value}
 use Rattle.erl_parser.proofs.Nesting.{item_fits_layer, BodyFits}
-use Rattle.erl_parser.proofs.ExprLaws.{IsExprWithin, NoExpr, read_expr-again, read_expr-takes}
+use Rattle.erl_parser.proofs.ExprLaws.{NoExpr, read_expr-again, read_expr-takes}
 
 -- a body whose expression is nested at most so deep
 abbrev pub IsBodyWithin : ℕ → List (Node ItemKind) → Type 0

@@ -1,17 +1,16 @@
 -- For the code: the readers' equations, at a depth that is 0 and at one that is not; and the depth of lists and literals.
-use Rattle.std.proofs.Common.{◌≡◌, ◌≢◌, ℕ, zero, suc, ◌-◌, List, [], ◌∷◌, ◌++◌, Option, None, max, refl, ap, sym, ◌∙◌, arith}
-use Rattle.erl_tree.specs.declared.token.Place.{Place}
+use Rattle.std.proofs.Common.{◌≡◌, ◌≢◌, ℕ, zero, suc, ◌-◌, List, [], ◌∷◌, ◌++◌, None, max, refl, ap, sym, ◌∙◌, arith}
 use Rattle.erl_tree.specs.declared.token.Placed.{Placed}
 use Rattle.erl_tree.specs.declared.token.Node.{Node}
 use Rattle.erl_tree.specs.declared.pattern.LiteralKind.{LiteralKind}
 use Rattle.erl_tree.specs.declared.pattern.LiteralKind.TheVariants as L
-use Rattle.erl_tree.specs.declared.type_expr.TypeKind.{TypeKind, fold-roll-TypeKind}
+use Rattle.erl_tree.specs.declared.type_expr.TypeKind.{fold-roll-TypeKind}
 use Rattle.erl_tree.specs.declared.type_expr.TypeKind.TheVariants as Y
 use Rattle.erl_tree.specs.declared.type_expr.TypeKind.TheOpen as O
 use Rattle.erl_tree.specs.declared.expr.ExprKind.{ExprKind}
 use Rattle.erl_tree.specs.Limits.{type_depth_layer, type_kind_depth, expr_depth}
-use Rattle.erl_tree.proofs.TreeLaws.{type_kind_depth-Atom, type_kind_depth-Int, type_kind_depth-NegInt, expr_depths}
-use Rattle.erl_parser.specs.Reading.{◌>>=◌, literal_type, read_simple_type, read_union, read_type, read_operand, read_additive, read_multiplicative, read_chained, read_operand_at, read_product, read_expr}
+use Rattle.erl_tree.proofs.TreeLaws.{type_kind_depth-Atom, type_kind_depth-Int, type_kind_depth-NegInt}
+use Rattle.erl_parser.specs.Reading.{◌>>=◌, expr_depths, literal_type, read_simple_type, read_union, read_type, read_operand, read_additive, read_multiplicative, read_chained, read_operand_at, read_product, read_expr}
 
 -- ---- types
 

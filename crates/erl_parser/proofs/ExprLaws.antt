@@ -1,5 +1,5 @@
 -- Expressions: what is well formed and nested within the limit is read again; what is read is that and takes exactly its tokens.
-use Rattle.std.proofs.Common.{◌≡◌, ℕ, ℤ, zero, suc, ◌≤◌, List, [], ◌∷◌, ◌++◌, map, length, Some, None, ap, sym, refl, subst, ◌∙◌, inl, inr, le-leb, leb-true, le_refl, append_assoc, max, arith}
+use Rattle.std.proofs.Common.{◌≡◌, ℕ, zero, suc, ◌≤◌, List, [], ◌∷◌, ◌++◌, map, length, Some, None, ap, sym, refl, subst, ◌∙◌, inl, inr, le-leb, leb-true, le_refl, append_assoc, arith}
 use Rattle.std.specs.Prelude.{codes, nat_le}
 use Rattle.std.proofs.lemmas.List.{length-append}
 use Rattle.erl_tree.specs.declared.token.Place.{Place}
@@ -16,8 +16,8 @@ use Rattle.erl_tree.specs.Spelling.{at, atom, mark, arguments_tokens, operator_t
 use Rattle.erl_tree.specs.Grammar.{node, IsAdditive, IsExpr, one_product, sum, IsProduct, one_operand, product, IsOperand, integer, variable, parens, call, AreArguments, no_arguments, last_argument, more_arguments}
 use Rattle.erl_tree.specs.Grammar as Grammar
 use Rattle.erl_tree.specs.Limits.{expr_depth_layer, expr_kind_depth, expr_depth}
-use Rattle.erl_tree.proofs.TreeLaws.{expr_depths, expr_shown-Int, expr_shown-Atom, expr_shown-Var, expr_shown-Paren, expr_shown-Binary, expr_shown-Call, expr_kind_depth-Int, expr_kind_depth-Atom, expr_kind_depth-Var, expr_kind_depth-Paren, expr_kind_depth-Binary, expr_kind_depth-Call}
-use Rattle.erl_parser.specs.Reading.{Reads, Listed, listing, before, closed, read_mark, read_items, read_list, read_close, read_named, read_parens, operand_from, read_operand, read_additive, read_multiplicative, expr_within, read_chain, read_chained, read_operand_at, read_product, read_expr}
+use Rattle.erl_tree.proofs.TreeLaws.{expr_shown-Int, expr_shown-Atom, expr_shown-Var, expr_shown-Paren, expr_shown-Binary, expr_shown-Call, expr_kind_depth-Int, expr_kind_depth-Atom, expr_kind_depth-Var, expr_kind_depth-Paren, expr_kind_depth-Binary, expr_kind_depth-Call}
+use Rattle.erl_parser.specs.Reading.{Reads, Listed, listing, before, closed, read_mark, read_items, read_list, read_close, read_named, read_parens, operand_from, read_operand, read_additive, read_multiplicative, expr_within, expr_depths, read_chain, read_chained, read_operand_at, read_product, read_expr}
 use Rattle.erl_parser.proofs.TokenLaws.{bind_some, case_some, if_some, some_is, pair_is, read_mark-again, read_mark-takes}
 use Rattle.erl_parser.proofs.PartLaws.{No, Again, NoClose, AreEnds, Takes, taken}
 
@@ -451,8 +451,8 @@ parens_take d inner takes ts x rest e =
     let g = takes o.0.1 i.0.0 i.0.1 i.1 in
     let whole : Expr = node o.0.0 (o.0.0 ∷ c.0.0 ∷ []) (E.Paren i.0.0) in
     let s = pair_is whole x c.0.1 rest c.2 in
-    let text : ts ≡ expr_tokens whole ++ c.0.1 =
-    read_mark-takes (codes "(") ts o.0.0 o.0.1 o.1 ∙ (ap (λ us. mark (codes "(") o.0.0 ∷ us) (g.1 ∙ ap (λ us. expr_tokens i.0.0 ++ us) (read_mark-takes (codes ")") i.0.1 c.0.0 c.0.1 c.1)) ∙ sym (parens_text i.0.0 o.0.0 c.0.0 c.0.1)) in
+    let inside : o.0.1 ≡ expr_tokens i.0.0 ++ (mark (codes ")") c.0.0 ∷ c.0.1) = g.1 ∙ ap (λ us. expr_tokens i.0.0 ++ us) (read_mark-takes (codes ")") i.0.1 c.0.0 c.0.1 c.1) in
+    let text : ts ≡ expr_tokens whole ++ c.0.1 = read_mark-takes (codes "(") ts o.0.0 o.0.1 o.1 ∙ (ap (λ us. mark (codes "(") o.0.0 ∷ us) inside ∙ sym (parens_text i.0.0 o.0.0 c.0.0 c.0.1)) in
     taken (IsOperandWithin (suc d)) expr_tokens ts whole x c.0.1 rest s.0 s.1 (parens o.0.0 c.0.0 i.0.0 g.0.0, omega (arith, g.0.1, expr_kind_depth-Paren i.0.0)) text
 
 from_takes : (d : ℕ) (inner : Reads Expr) → Takes (IsExprWithin d) expr_tokens inner → (k : Token) (p : Place) (behind all : List Placed) (x : Expr) (rest : List Placed) → all ≡ at k p ∷ behind → operand_from k p inner behind all ≡ Some (x, rest)

@@ -17,7 +17,7 @@ use Rattle.erl_tree.specs.declared.form.Function.{Function}
 use Rattle.erl_tree.specs.declared.form.TreeForm.{TreeForm}
 use Rattle.erl_tree.specs.declared.form.TreeForm.TheVariants as F
 use Rattle.erl_tree.specs.Spelling.{at, atom, mark, params_tokens, type_tokens, pattern_tokens, body_tokens, function_tokens, spec_clause_tokens, spec_tokens, form_tokens, forms_tokens}
-use Rattle.erl_tree.specs.Grammar.{IsType, IsPattern, IsBody, AreParamMarks, IsFunction, IsSpecClause, IsSpec, IsForm}
+use Rattle.erl_tree.specs.Grammar.{IsType, IsPattern, AreParamMarks, IsFunction, IsSpecClause, IsSpec, IsForm}
 use Rattle.erl_parser.specs.Reading.{read_mark, read_word, read_atom, read_dot, read_end, read_type, read_pattern, read_body, read_params, read_function, read_spec_clause, read_spec, read_form, read_forms}
 use Rattle.erl_parser.proofs.TokenLaws.{bind_some, case_some, pair_is, read_mark-again, read_mark-takes, read_word-again, read_word-takes, read_atom-again, read_atom-takes, read_dot-again, read_dot-takes, read_end-again, read_end-takes}
 use Rattle.erl_parser.proofs.Shapes.{FunctionShape, function, function_node, function_shape, function_tokens-node, is_function-node, SpecClauseShape, spec_clause, spec_clause_node, spec_clause_shape, SpecShape, spec, spec_node, spec_shape}

@@ -1,5 +1,5 @@
 -- How deep the types and expressions of forms are nested, for any limit: each form is within some limit and all above it.
-use Rattle.std.proofs.Common.{◌≡◌, ℕ, ◌≤◌, List, [], ◌∷◌, max, arith}
+use Rattle.std.proofs.Common.{ℕ, ◌≤◌, List, [], ◌∷◌, max, arith}
 use Rattle.erl_tree.specs.Lists.{Every}
 use Rattle.erl_tree.specs.declared.token.Node.{Node}
 use Rattle.erl_tree.specs.declared.type_expr.TypeKind.{TypeKind}

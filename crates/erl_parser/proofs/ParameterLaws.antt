@@ -1,5 +1,5 @@
 -- Lists of parameters, for any reader of one parameter.
-use Rattle.std.proofs.Common.{◌≡◌, ℕ, zero, suc, ◌≤◌, List, [], ◌∷◌, ◌++◌, map, length, Some, None, refl, ap, sym, subst, ◌∙◌, inl, inr, le-leb, leb-true, arith}
+use Rattle.std.proofs.Common.{◌≡◌, ℕ, zero, suc, ◌≤◌, List, [], ◌∷◌, ◌++◌, map, length, Some, refl, ap, sym, subst, ◌∙◌, inl, inr, le-leb, leb-true, arith}
 use Rattle.std.specs.Prelude.{codes, nat_le}
 use Rattle.std.proofs.lemmas.List.{length-append}
 use Rattle.erl_tree.specs.Lists.{Every}
@@ -7,7 +7,7 @@ use Rattle.erl_tree.specs.declared.token.Place.{Place}
 use Rattle.erl_tree.specs.declared.token.Placed.{Placed}
 use Rattle.erl_tree.specs.Spelling.{mark, params_tokens}
 use Rattle.erl_tree.specs.Grammar.{IsArity, AreParamMarks}
-use Rattle.erl_parser.specs.Reading.{in_case, Reads, Listed, listing, before, closed, read_mark, read_items, read_list, read_closing, within_arity, read_params}
+use Rattle.erl_parser.specs.Reading.{Reads, Listed, listing, before, closed, read_mark, read_items, read_list, read_closing, within_arity, read_params}
 use Rattle.erl_parser.proofs.TokenLaws.{bind_some, case_some, if_some, some_is, pair_is, read_mark-again, read_mark-takes}
 use Rattle.erl_parser.proofs.PartLaws.{No, Again, NoClose, AreEnds, Takes}
 

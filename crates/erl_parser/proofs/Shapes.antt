@@ -1,6 +1,6 @@
 -- The well-formed nodes of flat modules, each as the node that its reader makes.
 use Rattle.std.proofs.Common.{◌≡◌, ℕ, List, [], ◌∷◌, ◌++◌, map, length, None, refl, ap, sym, subst, ◌∙◌}
-use Rattle.std.specs.Prelude.{codes, ℤ}
+use Rattle.std.specs.Prelude.{codes}
 use Rattle.erl_tree.specs.Lists.{Every}
 use Rattle.erl_tree.specs.declared.token.Place.{Place}
 use Rattle.erl_tree.specs.declared.token.Node.{Node}

@@ -1,5 +1,5 @@
 -- Types: what is well formed and nested within the limit is read again; what is read is that and takes exactly its tokens.
-use Rattle.std.proofs.Common.{◌≡◌, ℕ, ℤ, zero, suc, ◌≤◌, List, [], ◌∷◌, ◌++◌, Some, None, ap, sym, refl, subst, ◌∙◌, inl, inr, le-leb, leb-true, append_assoc, max, arith}
+use Rattle.std.proofs.Common.{◌≡◌, ℕ, zero, suc, ◌≤◌, List, [], ◌∷◌, ◌++◌, Some, None, ap, sym, refl, subst, ◌∙◌, inl, inr, le-leb, leb-true, append_assoc, arith}
 use Rattle.std.specs.Prelude.{codes, nat_le}
 use Rattle.erl_tree.specs.declared.token.Place.{Place}
 use Rattle.erl_tree.specs.declared.token.Placed.{Placed}
@@ -16,7 +16,7 @@ use Rattle.erl_tree.specs.Grammar.{node, is_end_layer, IsEnd, IsType, one_type, 
 use Rattle.erl_tree.specs.Limits.{type_depth_layer, type_kind_depth, type_depth}
 use Rattle.erl_tree.proofs.TreeLaws.{type_shown-Atom, type_shown-Int, type_shown-NegInt, type_shown-Paren, type_shown-Or, type_shown-Range, type_shown-Use, type_kind_depth-Atom, type_kind_depth-Int, type_kind_depth-NegInt, type_kind_depth-Paren, type_kind_depth-Or, type_kind_depth-Range, type_kind_depth-Use}
 use Rattle.erl_parser.specs.Reading.{Reads, read_mark, read_integer, read_literal, literal_type, read_integers, read_named_type, read_other_type, type_from, read_simple_type, type_within, read_union, read_type}
-use Rattle.erl_parser.proofs.TokenLaws.{bind_some, case_some, if_some, some_is, pair_is, read_mark-again, read_mark-takes, read_integer-again, read_integer-takes}
+use Rattle.erl_parser.proofs.TokenLaws.{bind_some, case_some, if_some, pair_is, read_mark-again, read_mark-takes, read_integer-takes}
 use Rattle.erl_parser.proofs.PartLaws.{No, Again, NoClose, AreEnds, Takes, taken}
 
 -- a type nested at most so deep

@@ -1,5 +1,5 @@
 -- Reading the tokens of a flat module from left to right. A reader answers what stands at the front of the tokens, with the tokens behind it, or nothing.
-use Rattle.std.specs.Prelude.{◌≡◌, ℕ, zero, suc, ℤ, List, [], ◌∷◌, ◌++◌, length, Option, Some, None, Result, Ok, Err, Bool, true, false, nat_le, if◌then◌else◌, codes}
+use Rattle.std.specs.Prelude.{◌≡◌, ℕ, zero, suc, ℤ, List, [], ◌∷◌, ◌++◌, length, Option, Some, None, Result, Ok, Err, Bool, true, false, nat_le, max, if◌then◌else◌, codes}
 use Rattle.std.specs.Str.{bytes_eq}
 use Rattle.erl_tree.specs.declared.token.Place.{Place}
 use Rattle.erl_tree.specs.declared.token.Placed.{Placed}
@@ -253,6 +253,11 @@ read_multiplicative ts = read_mark (codes "*") ts >>= λ m. Some ((Mul, m.0), m.
 -- an expression, where it is nested at most so deep
 abbrev pub expr_within : ℕ → Node ExprKind → Option (Node ExprKind)
 expr_within limit e = if nat_le (expr_depth e) limit then Some e else None
+
+-- the greatest depth of some expressions
+abbrev pub expr_depths : List (Node ExprKind) → ℕ
+expr_depths [] = 0
+expr_depths (e ∷ es) = max (expr_depth e) (expr_depths es)
 
 -- operators and their right operands, for as long as they come
 unfoldable pub read_chain : Reads (BinaryOp × Place) → Reads (Node ExprKind) → ℕ → ℕ → Node ExprKind → Reads (Node ExprKind)

@@ -4,9 +4,8 @@ ghost use Rattle.std.specs.Prelude.{◌≡◌, ◌<◌, ◌≤◌, ◌-◌, ◌�
 ghost use Rattle.erl_tree.specs.declared.expr.ExprKind.TheVariants as kinds;
 ghost use Rattle.erl_tree.specs.Grammar.{node};
 ghost use Rattle.erl_tree.specs.Limits.{expr_depth, nesting_limit};
-ghost use Rattle.erl_tree.proofs.TreeLaws.{expr_depths};
 ghost use Rattle.erl_parser.specs.Reading as reading;
-ghost use Rattle.erl_parser.specs.Reading.{Finds, Gives, listing};
+ghost use Rattle.erl_parser.specs.Reading.{Finds, Gives, listing, expr_depths};
 
 use crate::fault::FirstFault;
 use crate::parts::{Measured, NESTING_LIMIT, deeper, leaf, node};

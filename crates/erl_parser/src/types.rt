@@ -73,10 +73,7 @@ fn integers(alloc: Global, tokens: &[Placed]) -> Result<(TypeExpr, &[Placed]), F
             let (high, rest) = literal(alloc, rest)?;
             let place = low.place;
             let marks = List::from_slice(alloc, &[dots])?;
-            Ok((
-                node(alloc, place, marks, TypeKind::Range(low, high))?,
-                rest,
-            ))
+            Ok((node(alloc, place, marks, TypeKind::Range(low, high))?, rest))
         }
     }
 }

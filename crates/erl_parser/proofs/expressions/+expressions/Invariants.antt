@@ -1,7 +1,6 @@
 use Rattle.std.proofs.Common.{◌≡◌, ◌≤◌, ◌<◌, ◌-◌, ◌+◌, ◌*◌, length}
 use Rattle.erl_tree.specs.Limits.{expr_depth}
-use Rattle.erl_tree.proofs.TreeLaws.{expr_depths}
-use Rattle.erl_parser.specs.Reading.{read_list, read_close, read_additive, read_multiplicative, read_operand_at, read_product, read_expr}
+use Rattle.erl_parser.specs.Reading.{expr_depths, read_list, read_close, read_additive, read_multiplicative, read_operand_at, read_product, read_expr}
 use Rattle.erl_parser.proofs.LoopLaws.{Listing, Going}
 use Rattle.erl_parser.proofs.expressions.+expressions.Given as goal
 
