@@ -1,6 +1,11 @@
 pub mod Lists
 pub mod Heads
 pub mod Parts
+pub mod JudgeLaws
+pub mod KeyTerms
+pub mod Calls
+pub mod Refutations
+pub mod Judged
 pub mod Safe
 pub mod Variables
 pub mod Elements

@@ -19,7 +19,7 @@ use Rattle.erl_tree.specs.declared.form.Module.{Module}
 use Rattle.erl_tree.specs.Lists.{Every, Among, AreDistinct}
 use Rattle.erl_tree.specs.Functions.{FunctionId, clauses_arity, function_id, functions_of, function_ids, of_function}
 use Rattle.erl_tree.specs.Specs.{and_then, all_present, type_term, clause_arrow, function_spec, specs_in, specs_of, spec_id, spec_clauses_arity, specified_id}
-use Rattle.erl_tree.specs.Spelling.{IsSpec, IsSpecClause}
+use Rattle.erl_tree.specs.Grammar.{IsSpec, IsSpecClause}
 use Rattle.erl_tree.specs.Readable.{IsFlatModule}
 use Rattle.erl_tree.specs.Membership.{arrows_if, arrows_of}
 use Rattle.function_table.specs.Table.{Entry, ids, IsInsertion}

@@ -1,11 +1,13 @@
 -- What a caller cites of parts and sets.
-use Rattle.std.proofs.Common.{◌≡◌, ◌∙◌, refl, ap, List, [], ◌∷◌, ◌++◌, Bool, true, false, ◌||◌}
+use Rattle.std.proofs.Common.{◌≡◌, ◌∙◌, refl, ap, List, [], ◌∷◌, ◌++◌, Bool, true, false, ◌||◌, ℤ, pos, negsuc, ◌≤ℤ◌, ◌^◌, ◌-◌, arith}
+use Rattle.std.specs.Prelude.{Some}
+use Rattle.std.proofs.lemmas.Int.{ints}
 use Rattle.std.proofs.lemmas.List.Elements.{All-nil, All-push, All-append}
 use Rattle.std.proofs.lemmas.List.Folds.{list_any-append}
 use Rattle.type_terms.specs.declared.term.Key.{Key}
 use Rattle.key_sets.specs.declared.part.Part.{Part}
 use Rattle.key_sets.specs.declared.key_set.KeySet.{KeySet}
-use Rattle.key_sets.specs.Parts.{part_has, parts_have, IsLimited, AreLimited}
+use Rattle.key_sets.specs.Parts.{part_has, parts_have, IsLimitedEnd, IsLimited, AreLimited}
 use Rattle.key_sets.specs.KeySets.{has}
 
 or-false : (b : Bool) → (b || false) ≡ b
@@ -34,3 +36,8 @@ AreLimited-push ps part h here = All-push IsLimited ps part h here
 
 pub AreLimited-append : (ps qs : List Part) → AreLimited ps → AreLimited qs → AreLimited (ps ++ qs)
 AreLimited-append ps qs h g = All-append IsLimited ps qs h g
+
+-- a closed end between the limits
+pub IsLimitedEnd-between : (n : ℤ) → negsuc (2 ^ 127 - 3) ≤ℤ n → n ≤ℤ pos (2 ^ 127 - 2) → IsLimitedEnd (Some n)
+IsLimitedEnd-between (pos n) low high = omega (arith, ints)
+IsLimitedEnd-between (negsuc n) low high = omega (arith, ints)

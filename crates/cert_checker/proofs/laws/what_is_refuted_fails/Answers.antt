@@ -1,4 +1,4 @@
-use Rattle.cert_checker.proofs.Elements.{refuted-fails}
+use Rattle.cert_checker.proofs.Refutations.{refuted-fails}
 use Rattle.cert_checker.proofs.laws.what_is_refuted_fails.Goals as goal
 
 pub returns : goal.returns
