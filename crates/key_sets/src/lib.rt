@@ -1,0 +1,12 @@
+//! Sets of integers and atoms.
+#![tactic(auto)]
+
+mod contents;
+mod key_set;
+mod names;
+mod part;
+mod range;
+mod sweep;
+
+pub use key_set::KeySet;
+pub use part::Part;
