@@ -7,6 +7,12 @@ pub mod FiniteMapLaws
 pub mod MapReads
 pub mod TextExamples
 pub mod Equations
+pub mod AlikeRuns
+pub mod BoundFree
 pub mod SpentSteps
+pub mod MoreSteps
 pub mod MembershipExamples
 pub mod TreeLaws
+pub mod GrammarLaws
+pub mod TreeExamples
+pub mod RunExamples

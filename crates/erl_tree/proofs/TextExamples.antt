@@ -10,7 +10,8 @@ use Rattle.erl_tree.specs.declared.token.Token.{Token}
 use Rattle.erl_tree.specs.declared.token.Token.TheVariants.{Atom, Mark, Dot, End}
 use Rattle.erl_tree.specs.Lexis.{every, is_white, IsGap, IsLongest, is_token_text, token_of, Spells, SpellsTokens, start}
 use Rattle.erl_tree.specs.SmallText.{place, small_text, small_module}
-use Rattle.erl_tree.specs.Spelling.{tokens_of, IsWellFormed, SpellsModule}
+use Rattle.erl_tree.specs.Spelling.{tokens_of}
+use Rattle.erl_tree.specs.Grammar.{IsWellFormed, SpellsModule}
 
 -- neither the front nor any longer prefix is the text of a token
 abbrev none_from : List ℕ → List ℕ → Bool

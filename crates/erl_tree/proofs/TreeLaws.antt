@@ -4,11 +4,10 @@ use Rattle.std.specs.Prelude.{Option, Some, None, neg_ℤ, codes}
 use Rattle.type_terms.specs.Keys.{Name}
 use Rattle.type_terms.specs.declared.term.Term.{Term, AtomLit, Or}
 use Rattle.erl_tree.specs.declared.token.Place.{Place}
-use Rattle.erl_tree.specs.declared.token.Placed.{Placed}
 use Rattle.erl_tree.specs.declared.token.Node.{Node}
 use Rattle.erl_tree.specs.declared.token.Token.TheVariants as T
 use Rattle.erl_tree.specs.declared.pattern.LiteralKind.{LiteralKind}
-use Rattle.erl_tree.specs.declared.type_expr.TypeKind.{TypeKind, fold-TypeKind, fold-roll-TypeKind}
+use Rattle.erl_tree.specs.declared.type_expr.TypeKind.{TypeKind, fold-roll-TypeKind}
 use Rattle.erl_tree.specs.declared.type_expr.TypeKind.TheVariants as Y
 use Rattle.erl_tree.specs.declared.type_expr.TypeKind.TheOpen as L
 use Rattle.erl_tree.specs.declared.expr.BinaryOp.{BinaryOp}

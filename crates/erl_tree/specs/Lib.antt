@@ -14,3 +14,4 @@ pub mod Running
 pub mod Safety
 pub mod SmallText
 pub mod SmallPrograms
+pub mod SmallTrees

@@ -1,5 +1,5 @@
 -- When names are used rightly in a module (Erlang Reference Manual, "Expressions" on variables, "Functions", and "Types and Function Specifications"), in its part on flat modules. It is said of modules that are well formed.
-use Rattle.std.specs.Prelude.{◌≡◌, ℕ, List, [], ◌∷◌, ◌++◌, map, length, Bool, false, Some, None, nat_eq, ◌&&◌, if◌then◌else◌, codes}
+use Rattle.std.specs.Prelude.{◌≡◌, List, [], ◌∷◌, ◌++◌, map, length, Bool, false, Some, None, nat_eq, ◌&&◌, if◌then◌else◌, codes}
 use Rattle.std.specs.List.{list_any}
 use Rattle.std.specs.Str.{bytes_eq}
 use Rattle.type_terms.specs.Keys.{Name, same_name}

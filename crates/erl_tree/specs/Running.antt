@@ -1,6 +1,5 @@
 -- What expressions and functions do with so many steps (Erlang Reference Manual, "Expressions" and "Function Evaluation"), in its part on flat modules. A form of which nothing is said yet goes wrong when it is run.
 use Rattle.std.specs.Prelude.{ℕ, zero, suc, ◌+ℤ◌, ◌-ℤ◌, ◌*ℤ◌, List, [], ◌∷◌, ◌++◌, length, cond, nat_eq, Option, Some, None, slice_get}
-use Rattle.type_terms.specs.Keys.{Name}
 use Rattle.type_terms.specs.declared.term.Def.{Def}
 use Rattle.type_terms.specs.declared.spec.FunSpec.{FunSpec}
 use Rattle.erl_tree.specs.declared.token.Node.{Node}
@@ -16,7 +15,7 @@ use Rattle.erl_tree.specs.declared.expr.ExprKind.TheOpen as E
 use Rattle.erl_tree.specs.declared.form.Function.{Function}
 use Rattle.erl_tree.specs.declared.form.Module.{Module}
 use Rattle.erl_tree.specs.Functions.{functions_of, find_function, clauses_arity}
-use Rattle.erl_tree.specs.Value.{Value, integer, atom, named_fun, closure, Environment, no_bindings, Class, Outcome, came, raised, wrong, going, Call, Run}
+use Rattle.erl_tree.specs.Value.{Value, integer, atom, named_fun, closure, Environment, no_bindings, Outcome, came, raised, wrong, going, Call, Run}
 use Rattle.erl_tree.specs.Matching.{variable_value, match_patterns}
 use Rattle.erl_tree.specs.Membership.{Program}
 

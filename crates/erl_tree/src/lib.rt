@@ -2,7 +2,9 @@
 #![tactic(auto)]
 
 pub mod examples;
+pub mod examples_of_runs;
 pub mod examples_of_text;
+pub mod examples_of_trees;
 mod expr;
 mod form;
 pub mod laws;
