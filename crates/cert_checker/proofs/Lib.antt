@@ -1,11 +1,3 @@
 pub mod Lists
-pub mod Heads
-pub mod Parts
-pub mod Safe
-pub mod Variables
-pub mod Elements
-pub mod Bodies
-pub mod Tables
-pub mod Sequences
-pub mod Counts
-pub mod Small
+pub mod ValueSets
+pub mod FlatForms

@@ -1,5 +1,3 @@
 pub mod Constraints
 pub mod Failures
 pub mod FlatTypes
-pub mod SpecTables
-pub mod Examples

@@ -1,5 +1,0 @@
-use Rattle.cert_checker.proofs.Elements.{refuted-fails}
-use Rattle.cert_checker.proofs.laws.what_is_refuted_fails.Goals as goal
-
-pub returns : goal.returns
-returns c = refuted-fails
