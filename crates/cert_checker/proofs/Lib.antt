@@ -1,3 +1,11 @@
 pub mod Lists
+pub mod Heads
+pub mod Parts
+pub mod JudgeLaws
+pub mod KeyTerms
+pub mod Calls
+pub mod Judged
+pub mod Safe
+pub mod Tables
 pub mod ValueSets
 pub mod FlatForms

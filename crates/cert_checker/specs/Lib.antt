@@ -1,3 +1,4 @@
 pub mod Constraints
 pub mod Failures
 pub mod FlatTypes
+pub mod SpecTables
