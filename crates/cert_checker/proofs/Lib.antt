@@ -9,3 +9,5 @@ pub mod Safe
 pub mod Tables
 pub mod ValueSets
 pub mod FlatForms
+pub mod Takes
+pub mod TypeTables

@@ -3,5 +3,6 @@
 
 mod flat_type;
 mod refusal;
+mod spec_table;
 
 pub use refusal::{FirstRefusal, Shown};
