@@ -11,3 +11,4 @@ pub mod ValueSets
 pub mod FlatForms
 pub mod Takes
 pub mod TypeTables
+pub mod Comparisons

@@ -2,3 +2,4 @@ pub mod Constraints
 pub mod Failures
 pub mod FlatTypes
 pub mod SpecTables
+pub mod Judging

@@ -1,0 +1,105 @@
+-- What the checks of an expression find: its type and that what it owes holds, or the first constraint that fails.
+use Rattle.std.specs.Prelude.{◌≡◌, ℕ, ◌+◌, List, [], ◌∷◌, ◌++◌, Option, Some, slice_get, length, true}
+use Rattle.type_terms.specs.declared.term.Term.{Term, AtomLit}
+use Rattle.type_terms.specs.declared.spec.Arrow.{Arrow}
+use Rattle.type_terms.specs.declared.spec.FunSpec.{FunSpec}
+use Rattle.type_terms.specs.Keys.{Name}
+use Rattle.key_sets.specs.declared.key_set.KeySet.{KeySet}
+use Rattle.erl_tree.specs.declared.token.Node.{Node}
+use Rattle.erl_tree.specs.declared.pattern.PatternKind.{PatternKind}
+use Rattle.erl_tree.specs.declared.expr.ExprKind.{ExprKind}
+use Rattle.erl_tree.specs.Lists.{Every, Among}
+use Rattle.erl_tree.specs.Functions.{of_function}
+use Rattle.erl_tree.specs.Specs.{and_then, one_integer}
+use Rattle.erl_tree.specs.Membership.{arrows_of}
+use Rattle.function_table.specs.Table.{ids}
+use Rattle.cert_checker.specs.declared.refusal.FirstRefusal.{FirstRefusal}
+use Rattle.cert_checker.specs.declared.spec_table.FunctionTypes.{FunctionTypes}
+use Rattle.cert_checker.specs.declared.spec_table.FormTypes.TheVariants.{Spec}
+use Rattle.cert_checker.specs.declared.spec_table.SpecTable.{SpecTable}
+use Rattle.cert_checker.specs.declared.expression_type.ExpressionType.{ExpressionType}
+use Rattle.cert_checker.specs.declared.expression_type.ExpressionType.TheVariants.{Integers, OneInteger, OneAtom, Parameter, ResultAt}
+use Rattle.cert_checker.specs.declared.scope.Scope.{Scope}
+use Rattle.cert_checker.specs.Constraints.{Test, FindsFits, Context, Judged, JudgedAll, Holds, integers, variable_type, judge}
+use Rattle.cert_checker.specs.Failures.{ShowsFailure}
+use Rattle.cert_checker.specs.FlatTypes.{IsSetOf, AreSetsOf, is_limited}
+use Rattle.cert_checker.specs.SpecTables.{HasTypesOf}
+
+-- ---- the specs of a module
+
+-- a table has the sets of the one arrow of each function, and finds each function that has one
+pub record HoldsTypes (specs : List FunSpec) (table : SpecTable) : Type 0 where
+  pub sound : (name : Name) (arity k : ℕ) → Among (of_function name arity, k) table.places → (arrow : Arrow) × (f : FunctionTypes) × (arrows_of specs name arity ≡ arrow ∷ []) × (slice_get table.types k ≡ Some (Spec f)) × HasTypesOf f arrow
+  pub complete : (name : Name) (arity : ℕ) (arrow : Arrow) → arrows_of specs name arity ≡ arrow ∷ [] → (Among (of_function name arity) (ids table.places) → ⊥) → ⊥
+
+-- ---- what an expression is judged by
+
+-- a test of arguments, specs and parameters' types, for which a table and sets stand
+pub record Setting (scope : Scope) : Type 0 where
+  pub fits : Test
+  pub finds : FindsFits fits
+  pub specs : List FunSpec
+  pub holds : HoldsTypes specs scope.table.now
+  pub types : List Term
+  pub described : AreSetsOf scope.params.now types
+
+-- the types of variables
+abbrev pub context_of : (scope : Scope) → Setting scope → Context
+context_of scope s = variable_type scope.patterns.now s.types
+
+-- what is said of an expression
+abbrev pub JudgedBy : (scope : Scope) → Setting scope → Node ExprKind → Judged → Type 0
+JudgedBy scope s e j = judge s.fits scope.number s.specs e (context_of scope s) ≡ Some j
+
+-- something is said of an expression
+pub record IsJudged (scope : Scope) (e : Node ExprKind) : Type 0 where
+  pub setting : Setting scope
+  pub judged : Judged
+  pub is : JudgedBy scope setting e judged
+
+-- expressions in turn, from left to right
+abbrev pub judge_arguments : Test → ℕ → List FunSpec → List (Node ExprKind) → Context → Option JudgedAll
+judge_arguments fits number specs [] context = Some (record { types = []; owed = [] })
+judge_arguments fits number specs (e ∷ es) context = and_then (judge fits number specs e context) (λ j. and_then (judge_arguments fits number specs es context) (λ js. Some (record { types = j.type ∷ js.types; owed = j.owed ++ js.owed })))
+
+-- what is said of expressions in turn
+abbrev pub AllJudgedBy : (scope : Scope) → Setting scope → List (Node ExprKind) → JudgedAll → Type 0
+AllJudgedBy scope s es js = judge_arguments s.fits scope.number s.specs es (context_of scope s) ≡ Some js
+
+-- something is said of each of them
+pub record AreJudged (scope : Scope) (es : List (Node ExprKind)) : Type 0 where
+  pub setting : Setting scope
+  pub judged : JudgedAll
+  pub is : AllJudgedBy scope setting es judged
+
+-- ---- what is found
+
+-- the type that is found stands for a term: all integers, one, an atom, or what a set of the table or of the parameters is of
+abbrev pub StandsFor : Scope → ExpressionType → Term → Type 0
+StandsFor scope Integers t = t ≡ integers
+StandsFor scope (OneInteger n) t = (t ≡ one_integer n) × (is_limited n ≡ true)
+StandsFor scope (OneAtom a) t = t ≡ AtomLit a
+StandsFor scope (Parameter at) t = (set : KeySet) × (slice_get scope.params.now at ≡ Some set) × IsSetOf set t
+StandsFor scope (ResultAt at) t = (f : FunctionTypes) × (slice_get scope.table.now.types at ≡ Some (Spec f)) × IsSetOf f.result t
+
+-- as many types as terms, each for its term
+abbrev pub StandForAll : Scope → List ExpressionType → List Term → Type 0
+StandForAll scope [] [] = Unit {0}
+StandForAll scope (f ∷ fs) (t ∷ ts) = StandsFor scope f t × StandForAll scope fs ts
+StandForAll scope _ _ = ⊥
+
+-- an expression has the type that was found, and all that it owes holds
+abbrev pub IsTypeIn : Scope → Node ExprKind → ExpressionType → Type 0
+IsTypeIn scope e found = (s : Setting scope) (j : Judged) → JudgedBy scope s e j → StandsFor scope found j.type × Every Holds j.owed
+
+-- the first constraint that an expression owes and that fails is refuted
+abbrev pub FailsIn : Scope → Node ExprKind → FirstRefusal → Type 0
+FailsIn scope e refusal = (s : Setting scope) (j : Judged) → JudgedBy scope s e j → ShowsFailure j.owed (scope.number + 1) refusal
+
+-- the same of expressions in turn
+abbrev pub AreTypesIn : Scope → List (Node ExprKind) → List ExpressionType → Type 0
+AreTypesIn scope es found = (s : Setting scope) (js : JudgedAll) → AllJudgedBy scope s es js → StandForAll scope found js.types × Every Holds js.owed
+
+-- the same of expressions in turn
+abbrev pub AllFailIn : Scope → List (Node ExprKind) → FirstRefusal → Type 0
+AllFailIn scope es refusal = (s : Setting scope) (js : JudgedAll) → AllJudgedBy scope s es js → ShowsFailure js.owed (scope.number + 1) refusal
