@@ -12,3 +12,9 @@ pub mod FlatForms
 pub mod Takes
 pub mod TypeTables
 pub mod Comparisons
+pub mod Arguments
+pub mod BoundVariables
+pub mod Failing
+pub mod CallChecks
+pub mod ExpressionForms
+pub mod Judgments

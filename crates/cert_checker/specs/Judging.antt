@@ -1,12 +1,19 @@
 -- What the checks of an expression find: its type and that what it owes holds, or the first constraint that fails.
-use Rattle.std.specs.Prelude.{◌≡◌, ℕ, ◌+◌, List, [], ◌∷◌, ◌++◌, Option, Some, slice_get, length, true}
-use Rattle.type_terms.specs.declared.term.Term.{Term, AtomLit}
+use Rattle.std.specs.Prelude.{◌≡◌, ℕ, ◌+◌, List, [], ◌∷◌, ◌++◌, Option, Some, slice_get, length, Bool, true, if◌then◌else◌}
+use Rattle.std.specs.List.{list_any}
+use Rattle.type_terms.specs.declared.term.Term.{Term, AtomLit, And, Fun}
+use Rattle.type_terms.specs.declared.spec.Kind.{Kind}
+use Rattle.type_terms.specs.declared.spec.Kind.TheVariants.{Operand, Call}
+use Rattle.type_terms.specs.Definitions.{given_definitions}
+use Rattle.type_terms.specs.Instances.{no_variables}
 use Rattle.type_terms.specs.declared.spec.Arrow.{Arrow}
 use Rattle.type_terms.specs.declared.spec.FunSpec.{FunSpec}
-use Rattle.type_terms.specs.Keys.{Name}
+use Rattle.type_terms.specs.Keys.{Name, same_name}
 use Rattle.key_sets.specs.declared.key_set.KeySet.{KeySet}
 use Rattle.erl_tree.specs.declared.token.Node.{Node}
-use Rattle.erl_tree.specs.declared.pattern.PatternKind.{PatternKind}
+use Rattle.erl_tree.specs.declared.pattern.PatternKind.{PatternKind, out-PatternKind}
+use Rattle.erl_tree.specs.declared.token.Place.{Place}
+use Rattle.erl_tree.specs.Readable.{is_wildcard, bound_layer}
 use Rattle.erl_tree.specs.declared.expr.ExprKind.{ExprKind}
 use Rattle.erl_tree.specs.Lists.{Every, Among}
 use Rattle.erl_tree.specs.Functions.{of_function}
@@ -14,14 +21,16 @@ use Rattle.erl_tree.specs.Specs.{and_then, one_integer}
 use Rattle.erl_tree.specs.Membership.{arrows_of}
 use Rattle.function_table.specs.Table.{ids}
 use Rattle.cert_checker.specs.declared.refusal.FirstRefusal.{FirstRefusal}
+use Rattle.cert_checker.specs.declared.refusal.FirstRefusal.TheVariants.{NoMemory, Failed}
+use Rattle.cert_checker.specs.declared.refusal.Shown.TheVariants.{One, Missing}
 use Rattle.cert_checker.specs.declared.spec_table.FunctionTypes.{FunctionTypes}
 use Rattle.cert_checker.specs.declared.spec_table.FormTypes.TheVariants.{Spec}
 use Rattle.cert_checker.specs.declared.spec_table.SpecTable.{SpecTable}
 use Rattle.cert_checker.specs.declared.expression_type.ExpressionType.{ExpressionType}
 use Rattle.cert_checker.specs.declared.expression_type.ExpressionType.TheVariants.{Integers, OneInteger, OneAtom, Parameter, ResultAt}
 use Rattle.cert_checker.specs.declared.scope.Scope.{Scope}
-use Rattle.cert_checker.specs.Constraints.{Test, FindsFits, Context, Judged, JudgedAll, Holds, integers, variable_type, judge}
-use Rattle.cert_checker.specs.Failures.{ShowsFailure}
+use Rattle.cert_checker.specs.Constraints.{Constraint, Test, FindsFits, Context, Judged, JudgedAll, Holds, integers, arrow_term, call_type, variable_type, judge}
+use Rattle.cert_checker.specs.Failures.{ShowsFailure, keys_in}
 use Rattle.cert_checker.specs.FlatTypes.{IsSetOf, AreSetsOf, is_limited}
 use Rattle.cert_checker.specs.SpecTables.{HasTypesOf}
 
@@ -29,7 +38,7 @@ use Rattle.cert_checker.specs.SpecTables.{HasTypesOf}
 
 -- a table has the sets of the one arrow of each function, and finds each function that has one
 pub record HoldsTypes (specs : List FunSpec) (table : SpecTable) : Type 0 where
-  pub sound : (name : Name) (arity k : ℕ) → Among (of_function name arity, k) table.places → (arrow : Arrow) × (f : FunctionTypes) × (arrows_of specs name arity ≡ arrow ∷ []) × (slice_get table.types k ≡ Some (Spec f)) × HasTypesOf f arrow
+  pub sound : (name : Name) (arity k : ℕ) → Among (of_function name arity, k) table.places → (arrow : Arrow) × (f : FunctionTypes) × (arrows_of specs name arity ≡ arrow ∷ []) × (slice_get table.types k ≡ Some (Spec f)) × HasTypesOf f arrow × (length arrow.params ≡ arity)
   pub complete : (name : Name) (arity : ℕ) (arrow : Arrow) → arrows_of specs name arity ≡ arrow ∷ [] → (Among (of_function name arity) (ids table.places) → ⊥) → ⊥
 
 -- ---- what an expression is judged by
@@ -103,3 +112,45 @@ AreTypesIn scope es found = (s : Setting scope) (js : JudgedAll) → AllJudgedBy
 -- the same of expressions in turn
 abbrev pub AllFailIn : Scope → List (Node ExprKind) → FirstRefusal → Type 0
 AllFailIn scope es refusal = (s : Setting scope) (js : JudgedAll) → AllJudgedBy scope s es js → ShowsFailure js.owed (scope.number + 1) refusal
+
+-- ---- variables
+
+-- whether a pattern binds this name
+abbrev pub is_bound_by : Name → Node PatternKind → Bool
+is_bound_by x p = list_any (same_name x) (bound_layer (out-PatternKind p.kind))
+
+-- whether a variable is this name, and not the wildcard
+abbrev pub is_this_variable : (variable name : Name) → Bool
+is_this_variable y x = list_any (same_name x) (if is_wildcard y then [] else y ∷ [])
+
+-- ---- constraints
+
+-- one constraint of a function
+abbrev pub owed_one : ℕ → Place → Kind → Term → Term → List Constraint
+owed_one number place kind left right = record { function = number; place = place; kind = kind; left = left; right = right } ∷ []
+
+-- two operands are integers
+abbrev pub owed_operands : ℕ → Place → Term → Place → Term → List Constraint
+owed_operands number p s q t = record { function = number; place = p; kind = Operand; left = s; right = integers } ∷ owed_one number q Operand t integers
+
+-- the type of a call in a setting
+abbrev pub type_of_call : (scope : Scope) → Setting scope → List Term → Arrow → Term
+type_of_call scope s types arrow = call_type s.fits scope.number s.specs types arrow
+
+-- a call is within its function's spec
+abbrev pub owed_call : (scope : Scope) → Setting scope → Place → List Term → Arrow → List Constraint
+owed_call scope s place types arrow = owed_one scope.number place Call (And (arrow_term arrow ∷ [])) (Fun types (type_of_call scope s types arrow))
+
+-- a call with such arguments of a function that has a spec
+pub record IsCall (scope : Scope) (name : Name) (args : List ExpressionType) : Type 0 where
+  pub setting : Setting scope
+  pub types : List Term
+  pub stand : StandForAll scope args types
+  pub arrow : Arrow
+  pub specified : arrows_of setting.specs name (length types) ≡ arrow ∷ []
+
+-- what is refused is a call whose arguments have keys of their types that are not all in the parameters
+abbrev pub MissesParameters : ℕ → Place → List Term → List Term → FirstRefusal → Type 0
+MissesParameters number p types params NoMemory = Unit {0}
+MissesParameters number p types params (Failed function place kind (Missing keys)) = (function ≡ number) × (place ≡ p) × (kind ≡ Call) × keys_in keys types given_definitions no_variables × (keys_in keys params given_definitions no_variables → ⊥)
+MissesParameters number p types params (Failed function place kind (One key)) = ⊥

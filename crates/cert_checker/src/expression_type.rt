@@ -11,7 +11,6 @@ ghost use Rattle.cert_checker.specs.FlatTypes.{IsSetOf, IsPartOf, is_limited};
 ghost use Rattle.cert_checker.specs.Judging.{StandsFor};
 
 use crate::scope::Scope;
-use crate::spec_table::FormTypes;
 use key_sets::{KeySet, Part};
 use std::alloc::Global;
 use type_terms::{Key, List, NoMemory, Plain, Text};
@@ -133,8 +132,5 @@ fn result_at<'a>(scope: &Scope<'a>, at: usize) -> &'a KeySet
     requires { (t : Term) × StandsFor scope.now (ResultAt at) t }
     ensures { (f : FunctionTypes) × (slice_get scope.now.table.now.types at ≡ Some (Spec f)) × (f.result ≡ result.now) }
 {
-    match scope.table.types.get(at) {
-        Some(FormTypes::Spec(types)) => &types.result,
-        _ => unreachable!(),
-    }
+    &scope.table.types_at(at).result
 }

@@ -1,10 +1,14 @@
 //! The checks that a module's functions owe, and what follows for its runs.
 #![tactic(auto)]
 
+mod body_check;
+mod call_check;
+mod comparison;
 mod expression_type;
 mod flat_type;
 mod refusal;
 mod scope;
 mod spec_table;
+mod variables;
 
 pub use refusal::{FirstRefusal, Shown};

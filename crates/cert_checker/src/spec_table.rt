@@ -1,8 +1,10 @@
-ghost use Rattle.std.specs.Prelude.{◌≡◌, List, Some, OnOk, IfOk, length, map};
+ghost use Rattle.std.specs.Prelude.{◌≡◌, List, Some, OnOk, IfOk, length, map, slice_get};
 ghost use Rattle.type_terms.specs.declared.term.Term.{Term};
 ghost use Rattle.type_terms.specs.declared.spec.Arrow.{Arrow};
 ghost use Rattle.erl_tree.specs.Lists.{Every};
 ghost use Rattle.erl_tree.specs.Specs.{type_term, all_present};
+ghost use Rattle.cert_checker.specs.declared.spec_table.FunctionTypes.{FunctionTypes};
+ghost use Rattle.cert_checker.specs.declared.spec_table.FormTypes.TheVariants.{Spec};
 ghost use Rattle.cert_checker.specs.FlatTypes.{IsFlatType, AreSetsOf};
 ghost use Rattle.cert_checker.specs.SpecTables.{HoldsSpecs, Adds, IsFirstArrow, HasTypesOf, HaveTypes, IsTypesOf, IsFlatForm, IsFlatSpec, IsFlatSpecClause, kind_arrow};
 
@@ -34,6 +36,19 @@ pub struct SpecTable {
     pub places: FunctionTable,
     /// The sets of each form.
     pub types: List<FormTypes>,
+}
+
+impl SpecTable {
+    /// The sets of the spec at a place among the forms.
+    pub fn types_at(&self, at: usize) -> &FunctionTypes
+        requires { (types : FunctionTypes) × (slice_get self.now.types at ≡ Some (Spec types)) }
+        ensures { slice_get self.now.types at ≡ Some (Spec result.now) }
+    {
+        match self.types.get(at) {
+            Some(FormTypes::Spec(types)) => types,
+            _ => unreachable!(),
+        }
+    }
 }
 
 /// The table of the specs among the forms of a module.
