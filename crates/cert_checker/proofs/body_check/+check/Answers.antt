@@ -1,10 +1,18 @@
-use Rattle.std.proofs.Common.{◌≡◌, sym, ◌∙◌, ap, subst, arith, rules, to_z, of_z, length}
+use Rattle.std.proofs.Common.{◌≡◌, sym, ◌∙◌, ap, subst, ℕ, ◌<◌, ◌≤◌, max, List, length, get_or, arith, rules, to_z, of_z}
+use denote.Param.Weighed.{at_most}
+use borrow.Author.Rules.{get_or_read}
+use Rattle.erl_tree.specs.declared.token.Node.{Node}
+use Rattle.erl_tree.specs.declared.expr.ExprKind.{ExprKind}
+use Rattle.erl_tree.specs.declared.expr.ExprKind.TheShapes.{weighed-ExprKind-Tuple-0, weighed-ExprKind-Tuple-0-at-4}
+use Rattle.erl_tree.proofs.expr.ExprKind.TheLaws.{the_size}
 use mir.Syntax.{w128}
+use Rattle.std.proofs.lemmas.Grind.{common_steps}
 use Rattle.std.proofs.lemmas.Int.{ints}
 use Rattle.std.proofs.lemmas.Result.{IfOk-weaker, IfErr-weaker, err_from_is_err_and}
 use Rattle.erl_tree.specs.declared.expr.ExprKind.{the_lemmas}
 use Rattle.cert_checker.specs.FlatTypes.{IsFlatExpr, is_limited}
-use Rattle.cert_checker.specs.Judging.{AreTypesIn}
+use Rattle.cert_checker.specs.declared.expression_type.ExpressionType.TheVariants.{OneInteger}
+use Rattle.cert_checker.specs.Judging.{IsTypeIn, AreTypesIn}
 use Rattle.cert_checker.proofs.Takes.{item-found, take-all, every-get}
 use Rattle.cert_checker.proofs.ExpressionForms.{flat-Int, flat-Paren, flat-Binary, flat-Call, expr-forms}
 use Rattle.cert_checker.proofs.Judgments.{int-typed, atom-typed, var-typed, var-judged, paren-judged, paren-typed, paren-fails, left-judged, right-judged, typed-stands, left-fails, right-fails, operands-fail, operation-typed, arguments-judged, arguments-fail, is-call, call-typed, call-fails, none-typed, argument-judged, argument-fails, arguments-more}
@@ -12,22 +20,38 @@ use Rattle.cert_checker.proofs.body_check.+check.Goals as goal
 
 -- ---- arguments
 
+-- an argument is no deeper than all of them
+below : (args items : List (Node ExprKind)) (i : ℕ) (e : Node ExprKind) → items ≡ args → i < length items → e ≡ get_or items i e → max 0 (max 0 (max (the_size e.kind) 0)) ≤ weighed-ExprKind-Tuple-0.weight _ the_size args
+below args items i e q l h = subst (λ z. max 0 (max 0 (max (the_size e.kind) 0)) ≤ weighed-ExprKind-Tuple-0.weight _ the_size z) q (subst (λ (z : Node ExprKind). max 0 (max 0 (max (the_size z.kind) 0)) ≤ weighed-ExprKind-Tuple-0.weight _ the_size items) (sym h) (at_most (weighed-ExprKind-Tuple-0-at-4.weight _ the_size) items i e l))
+
 pub check_arguments-check_expression-requires : goal.check_arguments-check_expression-requires
-check_arguments-check_expression-requires t c = ?
+check_arguments-check_expression-requires t c =
+    let f = item-found c.as_slice-argument-items.result.now c.args.args.now c.loop-argument.argument-index c.argument-item.result c.as_slice-argument-items.ensures c.loop-argument-test.true c.argument-item.is in
+    (first_of (search (rules, the_lemmas, get_or_read), grind (the_lemmas, arith, common_steps), omega (arith, below c.args.args.now c.as_slice-argument-items.result.now c.loop-argument.argument-index c.argument-item.result c.as_slice-argument-items.ensures c.loop-argument-test.true c.argument-item.is)), (every-get IsFlatExpr c.args.args.now c.loop-argument.argument-index c.argument-item.result c.requires.flat f, argument-judged c.args.scope.now c.args.args.now c.loop-argument.argument-index c.argument-item.result f c.requires.judged))
 
 pub check_arguments-returns-in_err-found-clause-fails : goal.check_arguments-returns-in_err-found-clause-fails
-check_arguments-returns-in_err-found-clause-fails t c = ?
+check_arguments-returns-in_err-found-clause-fails t c =
+    let f = item-found c.as_slice-argument-items.result.now c.args.args.now c.loop-argument.argument-index c.argument-item.result c.as_slice-argument-items.ensures c.loop-argument-test.true c.argument-item.is in
+    let p = err_from_is_err_and c.from_residual.result c.from_residual.ensures.1 in
+    rw (p.1, p.2) (argument-fails c.args.scope.now c.args.args.now c.loop-argument.argument-index c.argument-item.result c.loop-argument.types c.in_err-found.field-0.0 f c.loop-argument.invariant c.in_err-found.ensures.fails)
 
 pub check_arguments-loop-argument-preserved : goal.check_arguments-loop-argument-preserved
-check_arguments-loop-argument-preserved t c = ?
+check_arguments-loop-argument-preserved t c =
+    let f = item-found c.as_slice-argument-items.result.now c.args.args.now c.loop-argument.argument-index c.argument-item.result c.as_slice-argument-items.ensures c.loop-argument-test.true c.argument-item.is in
+    arguments-more c.args.scope.now c.args.args.now c.loop-argument.argument-index c.argument-item.result c.loop-argument.types c.push.new.self c.in_ok-found.found f c.in_ok-push.ensures.ok c.loop-argument.invariant c.in_ok-found.ensures.typed
 
 pub check_arguments-returns-clause-typed : goal.check_arguments-returns-clause-typed
-check_arguments-returns-clause-typed t c = ?
+check_arguments-returns-clause-typed t c =
+    let full : c.loop-argument.argument-index ≡ length c.args.args.now = let l = ap length c.as_slice-argument-items.ensures in let x = c.loop-argument-test.false in let y = c.loop-argument.auto.argument-index-end in omega arith in
+    subst (λ z. AreTypesIn c.args.scope.now z c.loop-argument.types) (take-all c.args.args.now c.loop-argument.argument-index full) c.loop-argument.invariant
 
 -- ---- leaves and parentheses
 
 pub check_expression-returns-in-Int-clause-typed : goal.check_expression-returns-in-Int-clause-typed
-check_expression-returns-in-Int-clause-typed t c = ?
+check_expression-returns-in-Int-clause-typed t c =
+    let e : to_z w128 (of_z w128 c.in-Int.number) ≡ c.in-Int.number = omega (arith, ints) in
+    let q = sym c.get.ensures ∙ c.in-Int.is in
+    subst (λ z. IsTypeIn c.args.scope.now c.args.expression.now (OneInteger z)) (sym e) (int-typed c.args.scope.now c.args.expression.now c.in-Int.number q (flat-Int c.args.expression.now c.in-Int.number c.requires.flat q))
 
 pub check_expression-returns-in_ok-name-in-Atom-clause-typed : goal.check_expression-returns-in_ok-name-in-Atom-clause-typed
 check_expression-returns-in_ok-name-in-Atom-clause-typed t c = atom-typed c.args.scope.now c.args.expression.now c.in-Atom.name c.in_ok-name-in-Atom.name (sym c.get.ensures ∙ c.in-Atom.is) c.in_ok-name-in-Atom.ensures
