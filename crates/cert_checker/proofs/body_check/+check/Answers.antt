@@ -1,12 +1,6 @@
-use Rattle.std.proofs.Common.{◌≡◌, sym, ◌∙◌, ap, subst, ℕ, ◌<◌, ◌≤◌, max, List, length, get_or, arith, rules, to_z, of_z}
-use denote.Param.Weighed.{at_most}
+use Rattle.std.proofs.Common.{◌≡◌, sym, ◌∙◌, ap, subst, length, arith, rules, to_z, of_z}
 use borrow.Author.Rules.{get_or_read}
-use Rattle.erl_tree.specs.declared.token.Node.{Node}
-use Rattle.erl_tree.specs.declared.expr.ExprKind.{ExprKind}
-use Rattle.erl_tree.specs.declared.expr.ExprKind.TheShapes.{weighed-ExprKind-Tuple-0, weighed-ExprKind-Tuple-0-at-4}
-use Rattle.erl_tree.proofs.expr.ExprKind.TheLaws.{the_size}
 use mir.Syntax.{w128}
-use Rattle.std.proofs.lemmas.Grind.{common_steps}
 use Rattle.std.proofs.lemmas.Int.{ints}
 use Rattle.std.proofs.lemmas.Result.{IfOk-weaker, IfErr-weaker, err_from_is_err_and}
 use Rattle.erl_tree.specs.declared.expr.ExprKind.{the_lemmas}
@@ -20,14 +14,10 @@ use Rattle.cert_checker.proofs.body_check.+check.Goals as goal
 
 -- ---- arguments
 
--- an argument is no deeper than all of them
-below : (args items : List (Node ExprKind)) (i : ℕ) (e : Node ExprKind) → items ≡ args → i < length items → e ≡ get_or items i e → max 0 (max 0 (max (the_size e.kind) 0)) ≤ weighed-ExprKind-Tuple-0.weight _ the_size args
-below args items i e q l h = subst (λ z. max 0 (max 0 (max (the_size e.kind) 0)) ≤ weighed-ExprKind-Tuple-0.weight _ the_size z) q (subst (λ (z : Node ExprKind). max 0 (max 0 (max (the_size z.kind) 0)) ≤ weighed-ExprKind-Tuple-0.weight _ the_size items) (sym h) (at_most (weighed-ExprKind-Tuple-0-at-4.weight _ the_size) items i e l))
-
 pub check_arguments-check_expression-requires : goal.check_arguments-check_expression-requires
 check_arguments-check_expression-requires t c =
     let f = item-found c.as_slice-argument-items.result.now c.args.args.now c.loop-argument.argument-index c.argument-item.result c.as_slice-argument-items.ensures c.loop-argument-test.true c.argument-item.is in
-    (first_of (search (rules, the_lemmas, get_or_read), grind (the_lemmas, arith, common_steps), omega (arith, below c.args.args.now c.as_slice-argument-items.result.now c.loop-argument.argument-index c.argument-item.result c.as_slice-argument-items.ensures c.loop-argument-test.true c.argument-item.is)), (every-get IsFlatExpr c.args.args.now c.loop-argument.argument-index c.argument-item.result c.requires.flat f, argument-judged c.args.scope.now c.args.args.now c.loop-argument.argument-index c.argument-item.result f c.requires.judged))
+    (search (rules, the_lemmas, get_or_read), (every-get IsFlatExpr c.args.args.now c.loop-argument.argument-index c.argument-item.result c.requires.flat f, argument-judged c.args.scope.now c.args.args.now c.loop-argument.argument-index c.argument-item.result f c.requires.judged))
 
 pub check_arguments-returns-in_err-found-clause-fails : goal.check_arguments-returns-in_err-found-clause-fails
 check_arguments-returns-in_err-found-clause-fails t c =
