@@ -28,6 +28,14 @@ pub limited-Int : (n : ℤ) → is_limited_expr (X.Int n) ≡ is_limited n
 unfolding is_limited_expr
 limited-Int n = ap (λ k. is_limited_expr k) (sym (X.rolls-Int n)) ∙ fold-roll-ExprKind Bool (Unit {0}) (Unit {0}) (Unit {0}) (Unit {0}) (Unit {0}) limited_expr_layer (λ i. tt) (λ q. tt) (λ a. tt) (λ c. tt) (λ c. tt) (E.Int n)
 
+pub limited-Atom : (a : Name) → is_limited_expr (X.Atom a) ≡ true
+unfolding is_limited_expr
+limited-Atom a = ap (λ k. is_limited_expr k) (sym (X.rolls-Atom a)) ∙ fold-roll-ExprKind Bool (Unit {0}) (Unit {0}) (Unit {0}) (Unit {0}) (Unit {0}) limited_expr_layer (λ i. tt) (λ q. tt) (λ a. tt) (λ c. tt) (λ c. tt) (E.Atom a)
+
+pub limited-Var : (x : Name) → is_limited_expr (X.Var x) ≡ true
+unfolding is_limited_expr
+limited-Var x = ap (λ k. is_limited_expr k) (sym (X.rolls-Var x)) ∙ fold-roll-ExprKind Bool (Unit {0}) (Unit {0}) (Unit {0}) (Unit {0}) (Unit {0}) limited_expr_layer (λ i. tt) (λ q. tt) (λ a. tt) (λ c. tt) (λ c. tt) (E.Var x)
+
 pub limited-Paren : (e : Node ExprKind) → is_limited_expr (X.Paren e) ≡ is_limited_expr e.kind
 unfolding is_limited_expr
 limited-Paren e = ap (λ k. is_limited_expr k) (sym (X.rolls-Paren e)) ∙ fold-roll-ExprKind Bool (Unit {0}) (Unit {0}) (Unit {0}) (Unit {0}) (Unit {0}) limited_expr_layer (λ i. tt) (λ q. tt) (λ a. tt) (λ c. tt) (λ c. tt) (E.Paren e)

@@ -40,7 +40,13 @@ pub limited-Range : (low high : Node LiteralKind) → is_limited_type (Y.Range l
 unfolding is_limited_type
 limited-Range low high = ap (λ k. is_limited_type k) (sym (Y.rolls-Range low high)) ∙ fold-roll-TypeKind Bool (Unit {0}) limited_type_layer (λ part. tt) (L.Range low high)
 
-pub ruleset limited_type_laws = (limited-Int, limited-NegInt, limited-Paren, limited-Or, limited-Range)
+pub limited-Atom : (a : Name) → is_limited_type (Y.Atom a) ≡ true
+unfolding is_limited_type
+limited-Atom a = ap (λ k. is_limited_type k) (sym (Y.rolls-Atom a)) ∙ fold-roll-TypeKind Bool (Unit {0}) limited_type_layer (λ part. tt) (L.Atom a)
+
+pub limited-Use : (name : Name) → is_limited_type (Y.Use None name []) ≡ true
+unfolding is_limited_type
+limited-Use name = ap (λ k. is_limited_type k) (sym (Y.rolls-Use None name [])) ∙ fold-roll-TypeKind Bool (Unit {0}) limited_type_layer (λ part. tt) (L.Use None name [])
 
 -- ---- what each form of a type has
 

@@ -18,3 +18,5 @@ pub mod Failing
 pub mod CallChecks
 pub mod ExpressionForms
 pub mod Judgments
+pub mod IntegerLimits
+pub mod FunctionBodies

@@ -15,6 +15,9 @@ use Rattle.erl_tree.specs.declared.pattern.PatternKind.{PatternKind, out-Pattern
 use Rattle.erl_tree.specs.declared.token.Place.{Place}
 use Rattle.erl_tree.specs.Readable.{is_wildcard, bound_layer}
 use Rattle.erl_tree.specs.declared.expr.ExprKind.{ExprKind}
+use Rattle.erl_tree.specs.declared.expr.ExprKind.TheOpen as E
+use Rattle.erl_tree.specs.declared.expr.ItemKind.{ItemKind, out-ItemKind}
+use Rattle.erl_tree.specs.declared.expr.ClauseKind.{ClauseKind, out-ClauseKind}
 use Rattle.erl_tree.specs.Lists.{Every, Among}
 use Rattle.erl_tree.specs.Functions.{of_function}
 use Rattle.erl_tree.specs.Specs.{and_then, one_integer}
@@ -29,9 +32,9 @@ use Rattle.cert_checker.specs.declared.spec_table.SpecTable.{SpecTable}
 use Rattle.cert_checker.specs.declared.expression_type.ExpressionType.{ExpressionType}
 use Rattle.cert_checker.specs.declared.expression_type.ExpressionType.TheVariants.{Integers, OneInteger, OneAtom, Parameter, ResultAt}
 use Rattle.cert_checker.specs.declared.scope.Scope.{Scope}
-use Rattle.cert_checker.specs.Constraints.{Constraint, Test, FindsFits, Context, Judged, JudgedAll, Holds, integers, arrow_term, call_type, variable_type, judge}
+use Rattle.cert_checker.specs.Constraints.{Constraint, Test, FindsFits, Context, Judged, JudgedAll, Holds, integers, arrow_term, call_type, variable_type, judge, owed_result}
 use Rattle.cert_checker.specs.Failures.{ShowsFailure, keys_in}
-use Rattle.cert_checker.specs.FlatTypes.{IsSetOf, AreSetsOf, is_limited}
+use Rattle.cert_checker.specs.FlatTypes.{IsSetOf, AreSetsOf, IsFlatExpr, is_limited}
 use Rattle.cert_checker.specs.SpecTables.{HasTypesOf}
 
 -- ---- the specs of a module
@@ -154,3 +157,50 @@ abbrev pub MissesParameters : ℕ → Place → List Term → List Term → Firs
 MissesParameters number p types params NoMemory = Unit {0}
 MissesParameters number p types params (Failed function place kind (Missing keys)) = (function ≡ number) × (place ≡ p) × (kind ≡ Call) × keys_in keys types given_definitions no_variables × (keys_in keys params given_definitions no_variables → ⊥)
 MissesParameters number p types params (Failed function place kind (One key)) = ⊥
+
+-- ---- bodies
+
+-- a body of this one expression
+pub record IsBodyOf (body : List (Node ItemKind)) (e : Node ExprKind) : Type 0 where
+  pub item : Node ItemKind
+  pub one : body ≡ item ∷ []
+  pub is_value : out-ItemKind item.kind ≡ E.Value e
+
+-- a body of one expression, of which something is said
+pub record IsJudgedBody (scope : Scope) (body : List (Node ItemKind)) : Type 0 where
+  pub expression : Node ExprKind
+  pub is_body : IsBodyOf body expression
+  pub flat : IsFlatExpr expression
+  pub judged : IsJudged scope expression
+
+-- what such a body owes where the result is within a term
+abbrev pub owed_in : (scope : Scope) → Setting scope → Node ExprKind → Judged → Term → List Constraint
+owed_in scope s e j t = owed_result s.fits scope.number s.specs e.place (Some j) t
+
+-- a test of arguments, specs and an arrow, for which a table and a function's sets stand
+pub record FunctionSetting (table : SpecTable) (types : FunctionTypes) : Type 0 where
+  pub fits : Test
+  pub finds : FindsFits fits
+  pub specs : List FunSpec
+  pub holds : HoldsTypes specs table
+  pub arrow : Arrow
+  pub typed : HasTypesOf types arrow
+
+-- one clause, whose body is this expression
+pub record IsClauseOf (clauses : List (Node ClauseKind)) (clause : Node ClauseKind) (e : Node ExprKind) : Type 0 where
+  pub one : clauses ≡ clause ∷ []
+  pub is_body : IsBodyOf (out-ClauseKind clause.kind).body e
+
+-- what is said of the body of a clause
+abbrev pub ClauseJudgedBy : {table : SpecTable} {types : FunctionTypes} → ℕ → FunctionSetting table types → Node ClauseKind → Node ExprKind → Judged → Type 0
+ClauseJudgedBy number s clause e j = judge s.fits number s.specs e (variable_type (out-ClauseKind clause.kind).patterns s.arrow.params) ≡ Some j
+
+-- one clause, of whose body something is said
+pub record AreJudgedClauses (table : SpecTable) (types : FunctionTypes) (number : ℕ) (clauses : List (Node ClauseKind)) : Type 0 where
+  pub clause : Node ClauseKind
+  pub expression : Node ExprKind
+  pub is_clause : IsClauseOf clauses clause expression
+  pub flat : IsFlatExpr expression
+  pub setting : FunctionSetting table types
+  pub judged : Judged
+  pub is : ClauseJudgedBy number setting clause expression judged

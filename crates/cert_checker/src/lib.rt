@@ -3,6 +3,7 @@
 
 mod body_check;
 mod call_check;
+mod checks;
 mod comparison;
 mod expression_type;
 mod flat_type;
@@ -11,4 +12,5 @@ mod scope;
 mod spec_table;
 mod variables;
 
+pub use checks::check_first;
 pub use refusal::{FirstRefusal, Shown};

@@ -4,6 +4,7 @@ use key_sets::KeySet;
 use type_terms::List;
 
 /// Where an expression stands: in the body of a function's clause.
+#[derive(Drop)]
 pub struct Scope<'a> {
     pub table: &'a SpecTable,
     /// The number of the function, from 0, in text order.
