@@ -20,3 +20,6 @@ pub mod ExpressionForms
 pub mod Judgments
 pub mod IntegerLimits
 pub mod FunctionBodies
+pub mod Sequences
+pub mod ModuleForms
+pub mod ModuleChecks
