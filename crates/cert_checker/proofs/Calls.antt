@@ -29,13 +29,13 @@ use Rattle.cert_checker.proofs.KeyTerms.{IsKey, IsOfKeys, values-moved, values-k
 -- ---- equal keys
 
 -- whether two values are the same key
-abbrev same_value : Value → Value → Bool
+abbrev pub same_value : Value → Value → Bool
 same_value (integer m) (integer n) = same_int m n
 same_value (atom a) (atom b) = same_name a b
 same_value _ _ = false
 
 -- whether two rows of values are the same keys
-abbrev same_values : List Value → List Value → Bool
+abbrev pub same_values : List Value → List Value → Bool
 same_values [] [] = true
 same_values (v ∷ vs) (w ∷ ws) = same_value v w && same_values vs ws
 same_values _ _ = false
@@ -65,11 +65,11 @@ value-is v (map_of es) h e = absurd h
 value-is v (named_fun name arity) h e = absurd h
 value-is v (closure number environment) h e = absurd h
 
-values-refl : (vs : List Value) → Every IsKey vs → same_values vs vs ≡ true
+pub values-refl : (vs : List Value) → Every IsKey vs → same_values vs vs ≡ true
 values-refl [] h = refl
 values-refl (v ∷ vs) h = and_from _ _ (value-refl v h.0) (values-refl vs h.1)
 
-values-are : (vs ws : List Value) → Every IsKey ws → same_values vs ws ≡ true → vs ≡ ws
+pub values-are : (vs ws : List Value) → Every IsKey ws → same_values vs ws ≡ true → vs ≡ ws
 values-are [] [] h e = refl
 values-are (v ∷ vs) (w ∷ ws) h e = let p : (same_value v w ≡ true) × (same_values vs ws ≡ true) = and_parts _ _ e in ap₂ ◌∷◌ (value-is v w h.0 p.0) (values-are vs ws h.1 p.1)
 values-are [] (w ∷ ws) h e = absurd (false≢true e)
@@ -84,11 +84,11 @@ values-stable p k i (v ∷ vs) [] = none-stable
 -- ---- a program whose funs go wrong for some arguments alone
 
 module _ (count : ℕ) (keys : List Value) where
-  abbrev picky_apply : Value → List Value → ℕ → Run Value
+  abbrev pub picky_apply : Value → List Value → ℕ → Run Value
   picky_apply f args zero = still_going 0
   picky_apply f args (suc m) = cond (same_values args keys) (goes_wrong 0) (still_going 0)
 
-  abbrev picky : Program
+  abbrev pub picky : Program
   picky = record { apply = picky_apply; arity = λ f. count; specs = []; defs = given_definitions }
 
   picky-spends : Spends picky
@@ -112,9 +112,13 @@ pub call-takes : (types params : List Term) (r R : Term) → Every IsOfKeys type
 call-takes types params r R tk pk w p k i vs x = values-stable p k i vs params (λ out.
     let Q : Program = picky (length params) vs in
     let f : Value = named_fun [] 0 in
-    let given : InTerm Q 1 f (Fun params r) given_definitions no_variables = (in-Fun-iff Q (picky-spends (length params) vs) 1 given_definitions no_variables params r f).1 (tt, refl, (λ m args l a.
-    spared (length params) vs r no_variables (same_values args vs) (λ e.
-    out (values-moved params pk Q p m k no_variables i vs (subst (λ z. values_in (InTerm Q m) z params given_definitions no_variables) (values-are args vs (values-keys types tk p k i vs x) e) a))))) in
+    let given : InTerm Q 1 f (Fun params r) given_definitions no_variables = (in-Fun-iff Q (picky-spends (length params) vs) 1 given_definitions no_variables params r f).1 (
+      tt,
+      refl,
+      (λ m args l a.
+          spared (length params) vs r no_variables (same_values args vs) (λ e.
+          out (values-moved params pk Q p m k no_variables i vs (subst (λ z. values_in (InTerm Q m) z params given_definitions no_variables) (values-are args vs (values-keys types tk p k i vs x) e) a)))),
+    ) in
     let both : InTerm Q 1 f (And (Fun params r ∷ [])) given_definitions no_variables = (in-And Q 1 given_definitions no_variables f (Fun params r ∷ [])).1 (λ t c. single Q f t (Fun params r) c given) in
     let taken : IsFun f × (Q.arity f ≡ length types) × ((m : ℕ) (args : List Value) → m < 1 → values_in (InTerm Q m) args types given_definitions no_variables → IsGoodRun Q (Q.apply f args (suc m)) R given_definitions no_variables) =
     (in-Fun-iff Q (picky-spends (length params) vs) 1 given_definitions no_variables types R f).0 (w Q no_variables 1 f tt both) in

@@ -13,7 +13,7 @@ use Rattle.erl_tree.specs.declared.expr.ExprKind.TheOpen as E
 use Rattle.erl_tree.specs.declared.expr.ExprKind.TheShapes as S
 use Rattle.erl_tree.specs.Specs.{and_then, one_integer}
 use Rattle.erl_tree.specs.Membership.{arrows_of}
-use Rattle.cert_checker.specs.Constraints.{Test, Context, Judged, JudgedAll, Judges, of_type, is_arithmetic, judge_all, operation, call, judge_layer, judge_kind, judge}
+use Rattle.cert_checker.specs.Constraints.{Test, Context, JudgedAll, Judges, of_type, is_arithmetic, judge_all, operation, call, judge_layer, judge_kind, judge}
 
 module _ (fits : Test) (function : ℕ) (specs : List FunSpec) where
   -- expressions in turn, from left to right
@@ -49,3 +49,5 @@ module _ (fits : Test) (function : ℕ) (specs : List FunSpec) where
   pub judge_kind-Call : (name : Name) (args : List (Node ExprKind)) (place : Place) (context : Context) → judge_kind fits function specs (X.Call None name args) place context ≡ and_then (judge_args args context) (λ js. call fits function specs place (arrows_of specs name (length js.types)) js)
   unfolding judge_kind
   judge_kind-Call name args place context = ap (λ k. judge_kind fits function specs k place context) (sym (X.rolls-Call None name args)) ∙ (ap (λ (f : Judges). f place context) (fold-roll-ExprKind Judges (Unit {0}) (Unit {0}) (Unit {0}) (Unit {0}) (Unit {0}) (judge_layer fits function specs) (λ i. tt) (λ q. tt) (λ a. tt) (λ c. tt) (λ c. tt) (E.Call None name args)) ∙ ap (λ (r : Context → Option JudgedAll). and_then (r context) (λ js. call fits function specs place (arrows_of specs name (length js.types)) js)) (judge_each args))
+
+pub ruleset judge_laws = (judge_kind-Int, judge_kind-Atom, judge_kind-Var, judge_kind-Paren, judge_kind-Binary, judge_kind-Call)

@@ -1,11 +1,11 @@
 -- In a flat module each body is judged, for each arrow of its function's spec: so each function owes one constraint on its result, and no body goes unchecked.
 use Rattle.std.proofs.Common.{◌≡◌, refl, sym, ◌∙◌, ap, subst, inl, inr, ℕ, suc, ◌+◌, List, [], ◌∷◌, ◌++◌, length, arith}
-use Rattle.std.specs.Prelude.{Bool, true, false, ◌||◌, ◌&&◌, Option, Some, None, map, nat_eq, if◌then◌else◌}
+use Rattle.std.specs.Prelude.{Bool, true, false, ◌||◌, Option, Some, None, map, if◌then◌else◌}
 use Rattle.std.specs.List.{list_any, Contains}
-use Rattle.type_terms.specs.declared.term.Term.{Term, Any, AtomLit, Fun, And}
+use Rattle.type_terms.specs.declared.term.Term.{Term}
 use Rattle.type_terms.specs.declared.spec.Arrow.{Arrow}
 use Rattle.type_terms.specs.declared.spec.FunSpec.{FunSpec}
-use Rattle.type_terms.specs.declared.spec.Kind.TheVariants.{Operand, Call, Result}
+use Rattle.type_terms.specs.declared.spec.Kind.TheVariants.{Call}
 use Rattle.type_terms.specs.Keys.{Name, same_name}
 use Rattle.type_terms.proofs.KeyLaws.{name-refl}
 use Rattle.type_terms.proofs.Contained.{contains-first}
@@ -31,8 +31,8 @@ use Rattle.erl_tree.specs.Specs.{and_then, specs_in, specs_of}
 use Rattle.erl_tree.specs.Grammar.{IsExpr, one_product, sum, IsProduct, one_operand, product, IsOperand, integer, atom, variable, parens, call as call_operand, AreArguments, no_arguments, last_argument, more_arguments, IsAdditive, IsPattern, is_pattern_layer, IsBody, IsClause, IsFunction, IsItem, is_item_layer, is_clause_layer}
 use Rattle.erl_tree.specs.Readable.{is_wildcard, bound_layer, bound_by, used_in, used_item_layer, used_by, called_in, called_item_layer, IsScopedClause, CallsOnly, IsFlatModule}
 use Rattle.erl_tree.specs.Membership.{arrows_of}
-use Rattle.erl_tree.proofs.TreeLaws.{all_used, all_called, used_in-Int, used_in-Atom, used_in-Var, used_in-Paren, used_in-Binary, used_in-Call, called_in-Int, called_in-Atom, called_in-Var, called_in-Paren, called_in-Binary, called_in-Call}
-use Rattle.cert_checker.specs.Constraints.{Constraint, Test, Context, Judged, JudgedAll, variable_type, of_type, integers, is_arithmetic, operation, call, call_type, judge, judge_kind, owed_result, owed_by_item, owed_by_body, owed_by_clauses, owed_for_arrows, owed_by_functions, owed_of, is_result, result_count}
+use Rattle.erl_tree.proofs.TreeLaws.{all_used, all_called, used_in-Var, used_in-Paren, used_in-Binary, used_in-Call, called_in-Var, called_in-Paren, called_in-Binary, called_in-Call}
+use Rattle.cert_checker.specs.Constraints.{Constraint, Test, Context, Judged, JudgedAll, variable_type, of_type, is_arithmetic, operation, call, judge, judge_kind, owed_result, owed_by_item, owed_by_body, owed_by_clauses, owed_for_arrows, owed_by_functions, owed_of, result_count}
 use Rattle.cert_checker.proofs.Lists.{every-split, every-at}
 use Rattle.cert_checker.proofs.Parts.{HasOneArrow, one-arrow-each, arrow-arity, well_formed-forms, forms-functions, forms-specs, function-clause}
 use Rattle.cert_checker.proofs.Tables.{own-arrow}
@@ -80,7 +80,7 @@ judged-at : (o q : Option Judged) → o ≡ q → IsJudged q → IsJudged o
 judged-at o q e h = (h.0, e ∙ h.1, h.2)
 
 module _ (fits : Test) (number : ℕ) (specs : List FunSpec) (context : Context) (bound : List Name) (ids : List FunctionId) (typed : (x : Name) → Among x bound → (u : Term) × (context x ≡ Some u))
-  (arrows : (name : Name) (arity : ℕ) → Among (of_function name arity) ids → (arrow : Arrow) × (arrows_of specs name arity ≡ arrow ∷ [])) where
+    (arrows : (name : Name) (arity : ℕ) → Among (of_function name arity) ids → (arrow : Arrow) × (arrows_of specs name arity ≡ arrow ∷ [])) where
   -- each variable is bound, and each function is one of these
   abbrev pub IsNamed : List Name → List FunctionId → Type 0
   IsNamed used called = Every (λ x. Among x bound) used × Every (λ id. Among id ids) called
@@ -114,7 +114,7 @@ module _ (fits : Test) (number : ℕ) (specs : List FunSpec) (context : Context)
   args-more e es h k = (
     record { types = h.0.type ∷ k.0.types; owed = h.0.owed ++ k.0.owed },
     ap (λ z. and_then z (λ j. and_then (judge_args fits number specs es context) (λ js. Some (record { types = j.type ∷ js.types; owed = j.owed ++ js.owed })))) h.1
-    ∙ ap (λ z. and_then z (λ (js : JudgedAll). Some (record { types = h.0.type ∷ js.types; owed = h.0.owed ++ js.owed }))) k.1,
+        ∙ ap (λ z. and_then z (λ (js : JudgedAll). Some (record { types = h.0.type ∷ js.types; owed = h.0.owed ++ js.owed }))) k.1,
     ap suc k.2,
     no-results h.0.owed k.0.owed h.2 k.3,
   )

@@ -1,17 +1,17 @@
 -- Terms of keys: their values are integers and atoms alone, and whether a value is in one depends neither on the program nor on the level nor on the instance. The types of flat modules are such terms.
-use Rattle.std.proofs.Common.{◌≡◌, refl, sym, ◌∙◌, ap, subst, inl, inr, ℕ, ℤ, List, [], ◌∷◌, ◌++◌, length}
+use Rattle.std.proofs.Common.{◌≡◌, sym, ◌∙◌, ap, subst, inl, inr, ℕ, ℤ, List, [], ◌∷◌, length}
 use Rattle.std.specs.Prelude.{Bool, true, false, Option, Some, None as Nothing, neg_ℤ, map, if◌then◌else◌, codes}
 use Rattle.std.specs.List.{Contains}
 use Rattle.std.specs.Str.{bytes_eq}
 use Rattle.std.proofs.lemmas.List.Elements.{Contains-append_cases}
-use Rattle.type_terms.specs.Keys.{Name, same_name}
+use Rattle.type_terms.specs.Keys.{Name}
 use Rattle.type_terms.specs.Reading.{le_int}
 use Rattle.type_terms.specs.declared.term.Term.{Term, Ints, AtomLit, AnyAtom, Or}
 use Rattle.type_terms.specs.declared.spec.Arrow.{Arrow}
 use Rattle.type_terms.specs.declared.spec.FunSpec.{FunSpec}
 use Rattle.type_terms.specs.Definitions.{given_definitions}
 use Rattle.type_terms.specs.Instances.{Instance}
-use Rattle.type_terms.proofs.Contained.{contains-cases, contains-none, contains-first}
+use Rattle.type_terms.proofs.Contained.{contains-cases, contains-none}
 use Rattle.type_terms.proofs.ReadingStability.{Stable, unit-stable, none-stable, pair-stable}
 use Rattle.erl_tree.specs.declared.token.Node.{Node}
 use Rattle.erl_tree.specs.declared.type_expr.TypeKind.{TypeKind}
@@ -20,13 +20,13 @@ use Rattle.erl_tree.specs.declared.form.SpecClauseKind.{SpecClauseKind}
 use Rattle.erl_tree.specs.declared.form.Module.{Module}
 use Rattle.erl_tree.specs.Lists.{Every}
 use Rattle.erl_tree.specs.Grammar.{IsType, one_type, union, IsSimpleType, atom_type, integer_type, negative_type, range_type, use_type, paren_type, IsSpec, IsSpecClause, is_spec_clause_layer, IsWellFormed}
-use Rattle.erl_tree.specs.Specs.{and_then, one_integer, end_of, range, built_in_type, type_term, all_present, clause_arrow, function_spec, specs_in, read_specs, specs_of, arrows_arity}
+use Rattle.erl_tree.specs.Specs.{and_then, end_of, range, built_in_type, type_term, all_present, clause_arrow, function_spec, specs_in, read_specs, specs_of}
 use Rattle.erl_tree.specs.Value.{Value, integer, atom, nil, cons, tuple, map_of, named_fun, closure}
 use Rattle.erl_tree.specs.Membership.{Program, InTerm, values_in, arrows_if, arrows_of}
 use Rattle.erl_tree.proofs.TreeLaws.{type_kind_term-Atom, type_kind_term-Int, type_kind_term-NegInt, type_kind_term-Paren, type_kind_term-Or, type_kind_term-Range, type_kind_term-Use}
 use Rattle.erl_tree.proofs.Equations.{in-Or}
 use Rattle.erl_tree.proofs.MembershipStability.{in-stable}
-use Rattle.cert_checker.proofs.Lists.{every-split, then-some, some-inj, none-some}
+use Rattle.cert_checker.proofs.Lists.{then-some, some-inj, none-some}
 use Rattle.cert_checker.proofs.Parts.{well_formed-forms, forms-specs, spec-clause, arrow-spec}
 
 -- ---- keys

@@ -4,6 +4,7 @@ pub mod Parts
 pub mod JudgeLaws
 pub mod KeyTerms
 pub mod Calls
+pub mod Refutations
 pub mod Judged
 pub mod Safe
 pub mod Tables
@@ -23,3 +24,4 @@ pub mod FunctionBodies
 pub mod Sequences
 pub mod ModuleForms
 pub mod ModuleChecks
+pub mod Small

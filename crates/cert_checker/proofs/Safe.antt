@@ -3,13 +3,13 @@ use Rattle.std.proofs.Common.{◌≡◌, refl, sym, ◌∙◌, ap, subst, ◌⊎
 use Rattle.std.specs.Prelude.{Bool, true, false, ◌||◌, ◌&&◌, Option, Some, None, cond, map, pos, negsuc, ℤ, nat_eq, if◌then◌else◌}
 use Rattle.std.specs.List.{Contains, list_any}
 use Rattle.std.proofs.lemmas.Bool.{and_parts, and_from, eqb-true, eq-eqb}
-use Rattle.type_terms.specs.declared.term.Term.{Term, Ints, AtomLit, And, Fun}
+use Rattle.type_terms.specs.declared.term.Term.{Term, AtomLit, And, Fun}
 use Rattle.type_terms.specs.declared.spec.Arrow.{Arrow}
 use Rattle.type_terms.specs.declared.spec.FunSpec.{FunSpec}
-use Rattle.type_terms.specs.declared.spec.Kind.TheVariants.{Operand, Call as CallKind, Result}
+use Rattle.type_terms.specs.declared.spec.Kind.TheVariants.{Call as CallKind, Result}
 use Rattle.type_terms.specs.Keys.{Name, same_name}
 use Rattle.type_terms.specs.Definitions.{given_definitions}
-use Rattle.type_terms.specs.Instances.{Instance, IsInstance, no_variables}
+use Rattle.type_terms.specs.Instances.{Instance, no_variables}
 use Rattle.type_terms.specs.Reading.{Reading, le_int}
 use Rattle.type_terms.proofs.KeyLaws.{name-refl, name-is}
 use Rattle.type_terms.proofs.Contained.{contains-cases, contains-none, contains-first}
@@ -21,27 +21,22 @@ use Rattle.erl_tree.specs.declared.expr.BinaryOp.{BinaryOp}
 use Rattle.erl_tree.specs.declared.expr.BinaryOp.TheVariants.{Add, Sub, Mul}
 use Rattle.erl_tree.specs.declared.expr.ExprKind.{ExprKind}
 use Rattle.erl_tree.specs.declared.expr.ExprKind.TheVariants as X
-use Rattle.erl_tree.specs.declared.expr.ItemKind.{ItemKind, out-ItemKind}
 use Rattle.erl_tree.specs.declared.expr.ClauseKind.{ClauseKind, out-ClauseKind}
-use Rattle.erl_tree.specs.declared.expr.QualifierKind.{QualifierKind}
-use Rattle.erl_tree.specs.declared.expr.AssocKind.{AssocKind}
-use Rattle.erl_tree.specs.declared.expr.CatchKind.{CatchKind}
-use Rattle.erl_tree.specs.declared.expr.ExprKind.TheOpen as E
 use Rattle.erl_tree.specs.declared.form.Function.{Function}
 use Rattle.erl_tree.specs.declared.form.Module.{Module}
-use Rattle.erl_tree.specs.Lists.{Every, Among, AreDistinct}
+use Rattle.erl_tree.specs.Lists.{Every, Among}
 use Rattle.erl_tree.specs.Functions.{of_function, function_id, functions_of, function_ids, clauses_arity, find_function, FunctionId}
 use Rattle.erl_tree.specs.Specs.{and_then, one_integer, specs_of, specs_in, spec_id}
-use Rattle.erl_tree.specs.Grammar.{IsExpr, one_product, sum, IsProduct, one_operand, product, IsOperand, AreArguments, no_arguments, last_argument, more_arguments, IsAdditive, IsPattern, is_pattern_layer, IsBody, IsClause}
+use Rattle.erl_tree.specs.Grammar.{IsExpr, one_product, sum, IsProduct, one_operand, product, IsOperand, AreArguments, no_arguments, last_argument, more_arguments, IsAdditive, IsPattern, is_pattern_layer, IsBody}
 use Rattle.erl_tree.specs.Grammar as G
 use Rattle.erl_tree.specs.Readable.{is_wildcard, bound_layer, bound_by, HasDistinctHead, IsFlatModule}
 use Rattle.erl_tree.specs.Value.{Value, Environment, no_bindings, named_fun, Run, Outcome, came, raised, wrong, going, integer, atom, Call, nil, cons, tuple, map_of, closure}
 use Rattle.erl_tree.specs.Matching.{variable_value, match_patterns}
-use Rattle.erl_tree.specs.Membership.{Program, InTerm, values_in, arrows_if, arrows_of, ends_well, call_within, calls_within}
-use Rattle.erl_tree.specs.Running.{gives, gives_found, goes_wrong, still_going, with_calls, go_on, then, Applies, operate, run_kind, run_expression, run_item_layer, run_body, run_matched, run_clause, run_clauses, run_found, Code, code_of, enter, apply_within, apply, program_of}
+use Rattle.erl_tree.specs.Membership.{Program, InTerm, values_in, arrows_if, arrows_of, ends_well, calls_within}
+use Rattle.erl_tree.specs.Running.{gives, gives_found, goes_wrong, go_on, then, Applies, operate, run_kind, run_expression, run_item_layer, run_clause, run_clauses, run_found, Code, code_of, enter, apply_within, apply, program_of}
 use Rattle.erl_tree.specs.Safety.{IsRightRun, IsSafe}
 use Rattle.erl_tree.proofs.TreeLaws.{run_args, run_kind-Int, run_kind-Atom, run_kind-Var, run_kind-Paren, run_kind-Binary, run_kind-Call}
-use Rattle.cert_checker.specs.Constraints.{Constraint, Test, Holds, IsWithin, Context, Judged, JudgedAll, of_type, integers, is_arithmetic, operand, operation, call, variable_type, judge, judge_kind, owed_result, owed_by_clauses, owed_for_arrows, owed_by_functions, owed_of}
+use Rattle.cert_checker.specs.Constraints.{Test, Holds, IsWithin, Context, Judged, JudgedAll, of_type, integers, is_arithmetic, operand, operation, call, variable_type, judge, judge_kind, owed_result, owed_by_clauses, owed_for_arrows, owed_by_functions, owed_of}
 use Rattle.cert_checker.specs.Failures.{MeetsConstraints}
 use Rattle.cert_checker.proofs.Lists.{every-split, every-at, then-some, some-inj, none-some}
 use Rattle.cert_checker.proofs.Heads.{Taken, all_in, take-patterns}
@@ -202,8 +197,8 @@ module _ (program : Program) where
   -- ---- expressions
 
   module _ (number : ℕ) (specs : List FunSpec) (keyed : (name : Name) (arity : ℕ) (arrow : Arrow) → Contains (arrows_of specs name arity) arrow → IsArrowOfKeys arrow) (apply : Applies)
-    (called : (name : Name) (arrow : Arrow) (vs : List Value) (steps : ℕ) → arrows_of specs name (length vs) ≡ arrow ∷ [] → AreHeld vs arrow.params → GoodRun Value (λ v. Held v arrow.result) (apply (named_fun name (length vs)) vs steps))
-    (context : Context) (environment : Environment) (owns : (x : Name) (t : Term) → context x ≡ Some t → IsOfKeys t × (v : Value) × (variable_value environment x ≡ Some v) × Held v t) where
+      (called : (name : Name) (arrow : Arrow) (vs : List Value) (steps : ℕ) → arrows_of specs name (length vs) ≡ arrow ∷ [] → AreHeld vs arrow.params → GoodRun Value (λ v. Held v arrow.result) (apply (named_fun name (length vs)) vs steps))
+      (context : Context) (environment : Environment) (owns : (x : Name) (t : Term) → context x ≡ Some t → IsOfKeys t × (v : Value) × (variable_value environment x ≡ Some v) × Held v t) where
     -- the type is of keys, and where what is owed holds, each run is good for it
     record Sound (e : ExprKind) (j : Judged) : Type 0 where
       keys : IsOfKeys j.type
@@ -243,12 +238,12 @@ module _ (program : Program) where
         (record {
           keys = ints-keys None None;
           good = λ h steps.
-            let h1 : Every Holds x.0.owed × Every Holds (y.0.owed ++ operand always number specs a.place x.0.type ∷ operand always number specs b.place y.0.type ∷ []) = every-split Holds x.0.owed _ h in
-            let h2 : Every Holds y.0.owed × Every Holds (operand always number specs a.place x.0.type ∷ operand always number specs b.place y.0.type ∷ []) = every-split Holds y.0.owed _ h1.1 in
-            subst (λ z. GoodRun Value IsInteger z) (sym (run_kind-Binary apply op a b environment steps))
-            (then-good (λ v. Held v x.0.type) IsInteger (run_expression apply a environment steps) _ (s.good h1.0 steps) (λ v left hv.
-            then-good (λ w. Held w y.0.type) IsInteger (run_expression apply b environment left) _ (t.good h2.0 left) (λ w rest hw.
-            operates op o v w rest (held-within x.0.type integers h2.1.0 v hv) (held-within y.0.type integers h2.1.1.0 w hw))));
+              let h1 : Every Holds x.0.owed × Every Holds (y.0.owed ++ operand always number specs a.place x.0.type ∷ operand always number specs b.place y.0.type ∷ []) = every-split Holds x.0.owed _ h in
+              let h2 : Every Holds y.0.owed × Every Holds (operand always number specs a.place x.0.type ∷ operand always number specs b.place y.0.type ∷ []) = every-split Holds y.0.owed _ h1.1 in
+              subst (λ z. GoodRun Value IsInteger z) (sym (run_kind-Binary apply op a b environment steps))
+              (then-good (λ v. Held v x.0.type) IsInteger (run_expression apply a environment steps) _ (s.good h1.0 steps) (λ v left hv.
+              then-good (λ w. Held w y.0.type) IsInteger (run_expression apply b environment left) _ (t.good h2.0 left) (λ w rest hw.
+              operates op o v w rest (held-within x.0.type integers h2.1.0 v hv) (held-within y.0.type integers h2.1.1.0 w hw))));
         })
 
     held-length : (vs : List Value) (ts : List Term) → AreHeld vs ts → length vs ≡ length ts
@@ -273,10 +268,10 @@ module _ (program : Program) where
             (record {
               keys = k.1;
               good = λ h steps.
-                let hs : Every Holds js.owed × Every Holds (record { function = number; place = place; kind = CallKind; left = And (Fun arrow.params arrow.result ∷ []); right = Fun js.types arrow.result } ∷ []) = every-split Holds js.owed _ h in
-                subst (λ z. GoodRun Value (λ v. Held v arrow.result) z) (sym (run_kind-Call apply name args environment steps))
-                (then-good (λ vs. AreHeld vs js.types) (λ v. Held v arrow.result) (run_args apply args environment steps) _ (s.good hs.0 steps) (λ vs left hv.
-                called name arrow vs left (ap (arrows_of specs name) (held-length vs js.types hv) ∙ e) (call-takes js.types arrow.params arrow.result arrow.result s.keys k.0 hs.1.0 program 0 no_variables vs hv)));
+                  let hs : Every Holds js.owed × Every Holds (record { function = number; place = place; kind = CallKind; left = And (Fun arrow.params arrow.result ∷ []); right = Fun js.types arrow.result } ∷ []) = every-split Holds js.owed _ h in
+                  subst (λ z. GoodRun Value (λ v. Held v arrow.result) z) (sym (run_kind-Call apply name args environment steps))
+                  (then-good (λ vs. AreHeld vs js.types) (λ v. Held v arrow.result) (run_args apply args environment steps) _ (s.good hs.0 steps) (λ vs left hv.
+                  called name arrow vs left (ap (arrows_of specs name) (held-length vs js.types hv) ∙ e) (call-takes js.types arrow.params arrow.result arrow.result s.keys k.0 hs.1.0 program 0 no_variables vs hv)));
             })
 
     args-none : ArgsSound []
@@ -292,9 +287,9 @@ module _ (program : Program) where
         (record {
           keys = (s.keys, t.keys);
           good = λ h steps.
-            let hs : Every Holds x.0.owed × Every Holds y.0.owed = every-split Holds x.0.owed y.0.owed h in
-            then-good (λ v. Held v x.0.type) (λ vs. AreHeld vs (x.0.type ∷ y.0.types)) (run_expression apply e environment steps) _ (s.good hs.0 steps) (λ v left hv.
-            then-good (λ vs. AreHeld vs y.0.types) (λ vs. AreHeld vs (x.0.type ∷ y.0.types)) (run_args apply es environment left) _ (t.good hs.1 left) (λ vs rest hvs. record { ends = (hv, hvs); calls = tt }));
+              let hs : Every Holds x.0.owed × Every Holds y.0.owed = every-split Holds x.0.owed y.0.owed h in
+              then-good (λ v. Held v x.0.type) (λ vs. AreHeld vs (x.0.type ∷ y.0.types)) (run_expression apply e environment steps) _ (s.good hs.0 steps) (λ v left hv.
+              then-good (λ vs. AreHeld vs y.0.types) (λ vs. AreHeld vs (x.0.type ∷ y.0.types)) (run_args apply es environment left) _ (t.good hs.1 left) (λ vs rest hvs. record { ends = (hv, hvs); calls = tt }));
         })
 
     additive : (op : BinaryOp) → IsAdditive op → (op ≡ Add) ⊎ ((op ≡ Sub) ⊎ (op ≡ Mul))

@@ -3,3 +3,4 @@ pub mod Failures
 pub mod FlatTypes
 pub mod SpecTables
 pub mod Judging
+pub mod Examples

@@ -5,8 +5,10 @@ mod body_check;
 mod call_check;
 mod checks;
 mod comparison;
+pub mod examples;
 mod expression_type;
 mod flat_type;
+pub mod laws;
 mod refusal;
 mod scope;
 mod spec_table;
@@ -14,3 +16,6 @@ mod variables;
 
 pub use checks::check_first;
 pub use refusal::{FirstRefusal, Shown};
+
+#[cfg(test)]
+mod tests;

@@ -1,0 +1,412 @@
+-- The small modules of the examples, by computing.
+use Rattle.std.proofs.Common.{◌≡◌, refl, sym, ◌∙◌, ap, subst, inl, inr, ℕ, ℤ, ◌+◌, ◌≤◌, ◌<◌, suc, List, [], ◌∷◌, ◌++◌, arith}
+use Rattle.std.specs.Prelude.{Bool, true, false, ◌&&◌, nat_le, nat_lt, pos, negsuc, codes, Option, Some, map, if◌then◌else◌}
+use Rattle.std.specs.Option.{unwrap_or}
+use Rattle.std.proofs.lemmas.Bool.{and_parts, true≢false, false≢true}
+use Rattle.type_terms.specs.Keys.{Name, same_name}
+use Rattle.type_terms.specs.declared.term.Key.TheVariants.{Int as IntKey, Atom as AtomKey}
+use Rattle.type_terms.specs.declared.term.Term.{Term, Any, Ints, AtomLit, And, Fun}
+use Rattle.type_terms.specs.declared.spec.Arrow.{Arrow}
+use Rattle.type_terms.specs.declared.spec.FunSpec.{FunSpec}
+use Rattle.type_terms.specs.declared.spec.Kind.TheVariants.{Operand as OperandKind, Call as CallKind, Result as ResultKind}
+use Rattle.type_terms.specs.Definitions.{given_definitions}
+use Rattle.type_terms.specs.Instances.{no_variables}
+use Rattle.erl_tree.specs.declared.token.Node.{Node}
+use Rattle.erl_tree.specs.declared.token.Token.{Token}
+use Rattle.erl_tree.specs.declared.token.Token.TheVariants as T
+use Rattle.erl_tree.specs.declared.token.Placed.{Placed}
+use Rattle.erl_tree.specs.declared.type_expr.TypeKind.{TypeKind}
+use Rattle.erl_tree.specs.declared.expr.BinaryOp.TheVariants.{Add, Sub}
+use Rattle.erl_tree.specs.declared.expr.ExprKind.{ExprKind}
+use Rattle.erl_tree.specs.declared.expr.ExprKind.TheVariants as E
+use Rattle.erl_tree.specs.Lists.{Every, Among, AreDistinct}
+use Rattle.erl_tree.specs.Spelling.{tokens_of}
+use Rattle.erl_tree.specs.Limits.{integer_limit, IsInLimit, HasIntegersInLimit, IsShallow, IsShallowType, type_depth, expr_depth}
+use Rattle.erl_tree.specs.Grammar.{IsType, one_type, use_type, atom_type, IsExpr, one_product, sum, IsOperand, one_operand, integer, atom, variable, call, last_argument, IsWellFormed}
+use Rattle.erl_tree.specs.Specs.{type_term, and_then, all_present, clause_arrow, arrows_arity, function_spec, read_specs, specs_of, spec_id}
+use Rattle.erl_tree.specs.Readable.{used_in, called_in, IsReadable, IsFlatModule}
+use Rattle.erl_tree.specs.Functions.{FunctionId, of_function, function_ids, functions_of}
+use Rattle.erl_tree.proofs.TreeLaws.{used_laws, called_laws, expr_depth_laws, expr_tokens_laws, type_tokens_laws, type_depth_laws, type_term_laws}
+use Rattle.cert_checker.specs.Examples as X
+use Rattle.cert_checker.specs.Examples.{place, leaf, integer_type, small_spec_clause, small_spec, small_module, identity, constant, recursive_call, recursive, two_calls, second_call_wrong, integers, spec_to_integers, small_specs}
+use Rattle.erl_tree.specs.Specs.{one_integer}
+use Rattle.erl_tree.specs.Value as V
+use Rattle.erl_tree.specs.Running
+use Rattle.erl_tree.specs.Running.{apply, apply_within, code_of, program_of}
+use Rattle.erl_tree.specs.Membership.{ends_well}
+use Rattle.erl_tree.specs.Safety.{IsRightRun, IsSafe}
+use Rattle.erl_tree.proofs.TreeLaws.{run_laws}
+use Rattle.cert_checker.specs.declared.refusal.Shown.TheVariants.{One, Missing}
+use Rattle.cert_checker.specs.declared.refusal.FirstRefusal.TheVariants.{Failed}
+use Rattle.cert_checker.specs.Constraints.{Test, Holds, IsWithin, owed_by_functions, owed_of}
+use Rattle.cert_checker.specs.Failures.{Refutes, ShowsFirstFailure}
+use Rattle.cert_checker.specs.Examples.{small_function}
+use Rattle.cert_checker.proofs.Calls.{call-within, within-same, within-any}
+use Rattle.cert_checker.proofs.JudgeLaws.{judge_laws}
+use Rattle.cert_checker.proofs.Refutations.{refuted-fails, call-refuted}
+use Rattle.cert_checker.proofs.Safe.{holds-safe}
+use Rattle.cert_checker.proofs.Lists.{every-join}
+
+append-none : {A : Type 0} (P : A → Type 0) (xs : List A) → Every P xs → Every P (xs ++ [])
+append-none P xs h = every-join P xs [] h tt
+
+-- ---- integers within the limit
+
+below_limit : Token → Bool
+below_limit (T.Int (pos n)) = nat_le n integer_limit
+below_limit (T.Int (negsuc n)) = nat_lt n integer_limit
+below_limit _ = true
+
+all_below : List Placed → Bool
+all_below [] = true
+all_below (t ∷ ts) = below_limit t.token && all_below ts
+
+not-above : (n l : ℕ) → nat_le n l ≡ true → l < n → ⊥
+not-above n l e h = grind arith
+
+not-above_negative : (n l : ℕ) → nat_lt n l ≡ true → l < suc n → ⊥
+not-above_negative n l e h = grind arith
+
+token-in_limit : (t : Token) → below_limit t ≡ true → IsInLimit t
+unfolding below_limit
+token-in_limit (T.Int (pos n)) e h = not-above n integer_limit e h
+token-in_limit (T.Int (negsuc n)) e h = not-above_negative n integer_limit e h
+token-in_limit _ e h = h
+
+tokens-in_limit : (ts : List Placed) → all_below ts ≡ true → Every (λ t. IsInLimit t.token) ts
+unfolding all_below
+tokens-in_limit [] e = tt
+tokens-in_limit (t ∷ ts) e = let p : (below_limit t.token ≡ true) × (all_below ts ≡ true) = and_parts _ _ e in (token-in_limit t.token p.0, tokens-in_limit ts p.1)
+
+-- ---- types and specs
+
+integer-formed : (line column : ℕ) → IsType (integer_type line column)
+integer-formed line column = one_type _ (use_type (place line column) (place line (column + 7)) (place line (column + 8)) (codes "integer"))
+
+integer-term : (line column : ℕ) → type_term (integer_type line column) ≡ Some integers
+integer-term line column = simp type_term_laws refl
+
+integer-depth : (line column : ℕ) → type_depth (integer_type line column) ≡ 1
+integer-depth line column = simp type_depth_laws refl
+
+atom-formed : (line column : ℕ) → IsType (X.atom_type line column)
+atom-formed line column = one_type _ (atom_type (place line column) (codes "a"))
+
+atom-term : (line column : ℕ) → type_term (X.atom_type line column) ≡ Some (AtomLit (codes "a"))
+atom-term line column = simp type_term_laws refl
+
+-- the spec of a function of one parameter
+spec-read : (name : Name) (line close : ℕ) (type : Node TypeKind) (t : Term) → type_term type ≡ Some t → function_spec (small_spec name line close type) ≡ Some (spec_to_integers name t)
+spec-read name line close type t e =
+    let a : clause_arrow (small_spec_clause line close type) ≡ Some (record { params = t ∷ []; result = integers }) =
+    λ j. and_then (and_then (e j) (λ a. and_then (all_present []) (λ more. Some (a ∷ more)))) (λ params. and_then (integer-term line (close + 5) j) (λ result. Some (record { params = params; result = result }))) in
+    ap (λ (o : Option Arrow). and_then (and_then o (λ a. and_then (all_present []) (λ more. Some (a ∷ more)))) (λ arrows. Some (record { name = name; arity = arrows_arity arrows; vars = 0; clauses = arrows }))) a
+
+shallow : (type : Node TypeKind) → type_depth type ≡ 1 → IsShallowType type
+shallow type e = omega (arith, e)
+
+-- ---- modules of one function
+
+module _ (dot : ℕ) (e : Node ExprKind) where
+  specs-read : read_specs (small_module dot e) ≡ Some small_specs
+  specs-read = ap (λ (o : Option FunSpec). and_then o (λ a. and_then (all_present []) (λ more. Some (a ∷ more)))) (spec-read (codes "f") 2 18 (integer_type 2 9) integers (integer-term 2 9))
+
+  pub specs-are : specs_of (small_module dot e) ≡ small_specs
+  unfolding specs_of
+  specs-are = ap (λ (o : Option (List FunSpec)). unwrap_or o []) specs-read
+
+  module _ (formed : IsExpr e) (used : Every (λ x. Among x (codes "X" ∷ [])) (used_in e.kind)) (called : Every (λ id. Among id (of_function (codes "f") 1 ∷ [])) (called_in e.kind)) (depth : expr_depth e ≤ 256) (limit : HasIntegersInLimit (small_module dot e)) where
+    small-formed : IsWellFormed (small_module dot e)
+    unfolding IsWellFormed Rattle.erl_tree.specs.declared.type_expr.TypeKind.TheViews.out-TypeKind denote.Hole.Carrier.out Rattle.erl_tree.specs.declared.pattern.PatternKind.TheViews.out-PatternKind Rattle.erl_tree.specs.declared.expr.ExprKind.TheViews.out-ItemKind Rattle.erl_tree.specs.declared.expr.ExprKind.TheBlock.shown-the_row-ExprKind-0 denote.Hole.Carrier.shown denote.Hole.Carrier.hidden
+    small-formed = ((refl, (refl, (integer-formed 2 9, tt), omega arith, tt, integer-formed 2 23, refl)), ((refl, (refl, refl, (refl, tt), omega arith, tt, (refl, formed))), tt))
+
+    small-readable : IsReadable (small_module dot e)
+    unfolding Rattle.erl_tree.specs.declared.type_expr.TypeKind.TheViews.out-TypeKind denote.Hole.Carrier.out Rattle.erl_tree.specs.declared.pattern.PatternKind.TheViews.out-PatternKind Rattle.erl_tree.specs.declared.expr.ExprKind.TheViews.out-ItemKind Rattle.erl_tree.specs.declared.expr.ExprKind.TheBlock.shown-the_row-ExprKind-0 denote.Hole.Carrier.shown denote.Hole.Carrier.hidden
+    small-readable = record {
+      specs_read = specs-read ∙ ap Some (sym specs-are);
+      functions_distinct = ((λ x. x), tt);
+      not_built_in = (refl, tt);
+      specs_distinct = subst (λ (z : List FunSpec). AreDistinct (map spec_id z)) (sym specs-are) ((λ x. x), tt);
+      specified = subst (λ (z : List FunSpec). Every (λ id. Among id (map spec_id z)) (function_ids (small_module dot e))) (sym specs-are) (inl refl, tt);
+      defined = subst (λ (z : List FunSpec). Every (λ id. Among id (function_ids (small_module dot e))) (map spec_id z)) (sym specs-are) (inl refl, tt);
+      scoped = ((append-none (λ x. Among x (codes "X" ∷ [])) (used_in e.kind) used, tt), tt);
+      calls_defined = (((called, tt), tt), tt);
+    }
+
+    small-shallow : IsShallow (small_module dot e)
+    unfolding Rattle.erl_tree.specs.declared.type_expr.TypeKind.TheViews.out-TypeKind denote.Hole.Carrier.out Rattle.erl_tree.specs.declared.pattern.PatternKind.TheViews.out-PatternKind Rattle.erl_tree.specs.declared.expr.ExprKind.TheViews.out-ItemKind Rattle.erl_tree.specs.declared.expr.ExprKind.TheBlock.shown-the_row-ExprKind-0 denote.Hole.Carrier.shown denote.Hole.Carrier.hidden
+    small-shallow = ((((shallow (integer_type 2 9) (integer-depth 2 9), tt), shallow (integer_type 2 23) (integer-depth 2 23)), tt), (((depth, tt), tt), tt))
+
+    pub small-flat : IsFlatModule (small_module dot e)
+    unfolding Rattle.erl_tree.specs.declared.type_expr.TypeKind.TheViews.out-TypeKind denote.Hole.Carrier.out Rattle.erl_tree.specs.declared.pattern.PatternKind.TheViews.out-PatternKind Rattle.erl_tree.specs.declared.expr.ExprKind.TheViews.out-ItemKind Rattle.erl_tree.specs.declared.expr.ExprKind.TheBlock.shown-the_row-ExprKind-0 denote.Hole.Carrier.shown denote.Hole.Carrier.hidden
+    small-flat = record { well_formed = small-formed; readable = small-readable; distinct_heads = ((((λ x. x), tt), tt), tt); shallow = small-shallow; in_limit = limit }
+
+-- an expression of one token
+leaf-flat : (e : ExprKind) → IsExpr (leaf 3 9 e) → Every (λ x. Among x (codes "X" ∷ [])) (used_in e) → Every (λ id. Among id (of_function (codes "f") 1 ∷ [])) (called_in e) → expr_depth (leaf 3 9 e) ≡ 1 → HasIntegersInLimit (small_module 10 (leaf 3 9 e)) → IsFlatModule (small_module 10 (leaf 3 9 e))
+leaf-flat e formed used called depth limit = small-flat 10 (leaf 3 9 e) formed used called (omega (arith, depth)) limit
+
+limit-identity : HasIntegersInLimit identity
+unfolding tokens_of all_below below_limit Rattle.erl_tree.specs.declared.type_expr.TypeKind.TheViews.out-TypeKind denote.Hole.Carrier.out Rattle.erl_tree.specs.declared.pattern.PatternKind.TheViews.out-PatternKind Rattle.erl_tree.specs.declared.expr.ExprKind.TheViews.out-ItemKind Rattle.erl_tree.specs.declared.expr.ExprKind.TheBlock.shown-the_row-ExprKind-0 denote.Hole.Carrier.shown denote.Hole.Carrier.hidden
+limit-identity = tokens-in_limit (tokens_of identity) (simp (type_tokens_laws, expr_tokens_laws) refl)
+
+pub identity-flat : IsFlatModule identity
+identity-flat = leaf-flat (E.Var (codes "X")) (one_product _ (one_operand _ (variable (place 3 9) (codes "X")))) (simp used_laws (inl refl, tt)) (simp called_laws tt) (simp expr_depth_laws refl) limit-identity
+
+limit-constant : HasIntegersInLimit constant
+unfolding tokens_of all_below below_limit Rattle.erl_tree.specs.declared.type_expr.TypeKind.TheViews.out-TypeKind denote.Hole.Carrier.out Rattle.erl_tree.specs.declared.pattern.PatternKind.TheViews.out-PatternKind Rattle.erl_tree.specs.declared.expr.ExprKind.TheViews.out-ItemKind Rattle.erl_tree.specs.declared.expr.ExprKind.TheBlock.shown-the_row-ExprKind-0 denote.Hole.Carrier.shown denote.Hole.Carrier.hidden
+limit-constant = tokens-in_limit (tokens_of constant) (simp (type_tokens_laws, expr_tokens_laws) refl)
+
+pub constant-flat : IsFlatModule constant
+constant-flat = leaf-flat (E.Atom (codes "a")) (one_product _ (one_operand _ (atom (place 3 9) (codes "a")))) (simp used_laws tt) (simp called_laws tt) (simp expr_depth_laws refl) limit-constant
+
+limit-recursive : HasIntegersInLimit recursive
+unfolding tokens_of all_below below_limit Rattle.erl_tree.specs.declared.type_expr.TypeKind.TheViews.out-TypeKind denote.Hole.Carrier.out Rattle.erl_tree.specs.declared.pattern.PatternKind.TheViews.out-PatternKind Rattle.erl_tree.specs.declared.expr.ExprKind.TheViews.out-ItemKind Rattle.erl_tree.specs.declared.expr.ExprKind.TheBlock.shown-the_row-ExprKind-0 denote.Hole.Carrier.shown denote.Hole.Carrier.hidden
+limit-recursive = tokens-in_limit (tokens_of recursive) (simp (type_tokens_laws, expr_tokens_laws) refl)
+
+one_less-formed : IsExpr X.one_less
+one_less-formed = sum Sub (leaf 3 11 (E.Var (codes "X"))) (leaf 3 15 (E.Int (pos 1))) (place 3 13) tt (one_product _ (one_operand _ (variable (place 3 11) (codes "X")))) (one_operand _ (integer (place 3 15) (pos 1)))
+
+recursive-formed : IsExpr recursive_call
+recursive-formed = one_product _ (one_operand _ (call (place 3 9) (place 3 10) (place 3 16 ∷ []) (codes "f") (X.one_less ∷ []) (last_argument X.one_less (place 3 16) one_less-formed)))
+
+recursive-depth : expr_depth recursive_call ≡ 3
+recursive-depth = simp expr_depth_laws refl
+
+pub recursive-flat : IsFlatModule recursive
+recursive-flat = small-flat 17 recursive_call recursive-formed (simp used_laws (inl refl, tt)) (simp called_laws (inl refl, tt)) (omega (arith, recursive-depth)) limit-recursive
+
+-- ---- what the modules owe
+
+identity-owes : (fits : Test) → owed_of fits identity ≡ record { function = 0; place = place 3 9; kind = ResultKind; left = integers; right = integers } ∷ []
+unfolding owed_of Rattle.erl_tree.specs.declared.type_expr.TypeKind.TheViews.out-TypeKind denote.Hole.Carrier.out Rattle.erl_tree.specs.declared.pattern.PatternKind.TheViews.out-PatternKind Rattle.erl_tree.specs.declared.expr.ExprKind.TheViews.out-ItemKind Rattle.erl_tree.specs.declared.expr.ExprKind.TheBlock.shown-the_row-ExprKind-0 denote.Hole.Carrier.shown denote.Hole.Carrier.hidden
+identity-owes fits = ap (λ z. owed_by_functions fits 0 (functions_of identity) z) (specs-are 10 (leaf 3 9 (E.Var (codes "X")))) ∙ simp judge_laws refl
+
+pub identity-safe : IsSafe identity (specs_of identity) given_definitions
+identity-safe = holds-safe identity identity-flat (subst (λ z. Every Holds z) (sym (identity-owes _)) (within-same integers, tt))
+
+constant-owes : (fits : Test) → owed_of fits constant ≡ record { function = 0; place = place 3 9; kind = ResultKind; left = AtomLit (codes "a"); right = integers } ∷ []
+unfolding owed_of Rattle.erl_tree.specs.declared.type_expr.TypeKind.TheViews.out-TypeKind denote.Hole.Carrier.out Rattle.erl_tree.specs.declared.pattern.PatternKind.TheViews.out-PatternKind Rattle.erl_tree.specs.declared.expr.ExprKind.TheViews.out-ItemKind Rattle.erl_tree.specs.declared.expr.ExprKind.TheBlock.shown-the_row-ExprKind-0 denote.Hole.Carrier.shown denote.Hole.Carrier.hidden
+constant-owes fits = ap (λ z. owed_by_functions fits 0 (functions_of constant) z) (specs-are 10 (leaf 3 9 (E.Atom (codes "a")))) ∙ simp judge_laws refl
+
+constant-refuted : Refutes (One (AtomKey (codes "a"))) (AtomLit (codes "a")) integers
+constant-refuted = (refl, λ h. h)
+
+pub constant-failure : ShowsFirstFailure constant (Failed 0 (place 3 9) ResultKind (One (AtomKey (codes "a"))))
+constant-failure fits finds = (record { before = []; left = AtomLit (codes "a"); right = integers; after = []; listed = constant-owes fits; earlier = tt; fails = refuted-fails (One (AtomKey (codes "a"))) (AtomLit (codes "a")) integers constant-refuted; refuted = constant-refuted }, omega arith)
+
+recursive-owes : (fits : Test) → owed_of fits recursive ≡ record { function = 0; place = place 3 11; kind = OperandKind; left = integers; right = integers } ∷ record { function = 0; place = place 3 15; kind = OperandKind; left = one_integer (pos 1); right = integers } ∷ record { function = 0; place = place 3 9; kind = CallKind; left = And (Fun (integers ∷ []) integers ∷ []); right = Fun (integers ∷ []) (if fits (integers ∷ []) (integers ∷ []) then integers else Any) } ∷ record { function = 0; place = place 3 9; kind = ResultKind; left = if fits (integers ∷ []) (integers ∷ []) then integers else Any; right = integers } ∷ []
+unfolding owed_of Rattle.erl_tree.specs.declared.type_expr.TypeKind.TheViews.out-TypeKind denote.Hole.Carrier.out Rattle.erl_tree.specs.declared.pattern.PatternKind.TheViews.out-PatternKind Rattle.erl_tree.specs.declared.expr.ExprKind.TheViews.out-ItemKind Rattle.erl_tree.specs.declared.expr.ExprKind.TheBlock.shown-the_row-ExprKind-0 denote.Hole.Carrier.shown denote.Hole.Carrier.hidden
+recursive-owes fits = ap (λ z. owed_by_functions fits 0 (functions_of recursive) z) (specs-are 17 recursive_call) ∙ simp judge_laws refl
+
+-- each integer range is within `integer()`
+pub within-integers : (low high : Option ℤ) → IsWithin (Ints low high) integers
+within-integers low high p i k (V.integer n) o h = refl
+within-integers low high p i k (V.atom a) o h = absurd h
+within-integers low high p i k V.nil o h = absurd h
+within-integers low high p i k (V.cons v w) o h = absurd h
+within-integers low high p i k (V.tuple vs) o h = absurd h
+within-integers low high p i k (V.map_of es) o h = absurd h
+within-integers low high p i k (V.named_fun name arity) o h = absurd h
+within-integers low high p i k (V.closure number environment) o h = absurd h
+
+pub recursive-safe : IsSafe recursive (specs_of recursive) given_definitions
+recursive-safe = holds-safe recursive recursive-flat (subst (λ z. Every Holds z) (sym (recursive-owes (λ types params. true)))
+    (within-same integers, (within-integers (Some (pos 1)) (Some (pos 1)), (call-within (integers ∷ []) (integers ∷ []) integers integers (within-same integers, tt) (within-same integers), (within-same integers, tt)))))
+
+-- ---- runs
+
+pub identity-gives : apply (code_of identity []) (V.named_fun (codes "f") 1) (V.integer (pos 7) ∷ []) 5 ≡ record { outcome = V.came (V.integer (pos 7)); left = 4; calls = record { name = codes "f"; args = V.integer (pos 7) ∷ []; left = 4 } ∷ [] }
+unfolding apply_within Rattle.erl_tree.specs.declared.type_expr.TypeKind.TheViews.out-TypeKind denote.Hole.Carrier.out Rattle.erl_tree.specs.declared.pattern.PatternKind.TheViews.out-PatternKind Rattle.erl_tree.specs.declared.expr.ExprKind.TheViews.out-ItemKind Rattle.erl_tree.specs.declared.expr.ExprKind.TheBlock.shown-the_row-ExprKind-0 denote.Hole.Carrier.shown denote.Hole.Carrier.hidden
+identity-gives = simp run_laws refl
+
+pub unbound-wrong : (apply (code_of X.unbound []) (V.named_fun (codes "f") 1) (V.integer (pos 7) ∷ []) 5).outcome ≡ V.wrong
+unfolding apply_within Rattle.erl_tree.specs.declared.type_expr.TypeKind.TheViews.out-TypeKind denote.Hole.Carrier.out Rattle.erl_tree.specs.declared.pattern.PatternKind.TheViews.out-PatternKind Rattle.erl_tree.specs.declared.expr.ExprKind.TheViews.out-ItemKind Rattle.erl_tree.specs.declared.expr.ExprKind.TheBlock.shown-the_row-ExprKind-0 denote.Hole.Carrier.shown denote.Hole.Carrier.hidden
+unbound-wrong = simp run_laws refl
+
+pub arity-wrong : (apply (code_of identity []) (V.named_fun (codes "f") 2) (V.integer (pos 7) ∷ []) 5).outcome ≡ V.wrong
+unfolding apply_within
+arity-wrong = refl
+
+pub none-goes : (apply (code_of identity []) (V.named_fun (codes "f") 1) (V.integer (pos 7) ∷ []) 0).outcome ≡ V.going
+unfolding apply_within
+none-goes = refl
+
+constant-gives : (apply (code_of constant []) (V.named_fun (codes "f") 1) (V.integer (pos 7) ∷ []) 1).outcome ≡ V.came (V.atom (codes "a"))
+unfolding apply_within Rattle.erl_tree.specs.declared.type_expr.TypeKind.TheViews.out-TypeKind denote.Hole.Carrier.out Rattle.erl_tree.specs.declared.pattern.PatternKind.TheViews.out-PatternKind Rattle.erl_tree.specs.declared.expr.ExprKind.TheViews.out-ItemKind Rattle.erl_tree.specs.declared.expr.ExprKind.TheBlock.shown-the_row-ExprKind-0 denote.Hole.Carrier.shown denote.Hole.Carrier.hidden
+constant-gives = simp run_laws refl
+
+pub recursive-goes : (apply (code_of recursive []) (V.named_fun (codes "f") 1) (V.integer (pos 7) ∷ []) 2) ≡ record { outcome = V.going; left = 0; calls = record { name = codes "f"; args = V.integer (pos 7) ∷ []; left = 1 } ∷ record { name = codes "f"; args = V.integer (pos 6) ∷ []; left = 0 } ∷ [] }
+unfolding apply_within Running.then Rattle.erl_tree.specs.declared.type_expr.TypeKind.TheViews.out-TypeKind denote.Hole.Carrier.out Rattle.erl_tree.specs.declared.pattern.PatternKind.TheViews.out-PatternKind Rattle.erl_tree.specs.declared.expr.ExprKind.TheViews.out-ItemKind Rattle.erl_tree.specs.declared.expr.ExprKind.TheBlock.shown-the_row-ExprKind-0 denote.Hole.Carrier.shown denote.Hole.Carrier.hidden
+recursive-goes = simp run_laws refl
+
+pub constant-not_safe : IsSafe constant (specs_of constant) given_definitions → ⊥
+unfolding Rattle.erl_tree.specs.declared.type_expr.TypeKind.TheViews.out-TypeKind denote.Hole.Carrier.out Rattle.erl_tree.specs.declared.pattern.PatternKind.TheViews.out-PatternKind Rattle.erl_tree.specs.declared.expr.ExprKind.TheViews.out-ItemKind Rattle.erl_tree.specs.declared.expr.ExprKind.TheBlock.shown-the_row-ExprKind-0 denote.Hole.Carrier.shown denote.Hole.Carrier.hidden
+constant-not_safe h =
+    let r : IsRightRun (program_of (code_of constant []) small_specs given_definitions) (apply (code_of constant []) (V.named_fun (codes "f") 1) (V.integer (pos 7) ∷ []) 1) integers no_variables =
+    subst (λ (z : List FunSpec). IsSafe constant z given_definitions) (specs-are 10 (leaf 3 9 (E.Atom (codes "a")))) h [] (small_function (codes "f") 3 10 (codes "X") (leaf 3 9 (E.Atom (codes "a")))) (record { params = integers ∷ []; result = integers }) no_variables (V.integer (pos 7) ∷ []) 1 (inl refl) (0, omega arith, refl) tt (λ k. (refl, tt)) in
+    r.value (V.atom (codes "a")) constant-gives 0
+
+-- ---- a module in which the second call is wrong
+
+abbrev both_specs : List FunSpec
+both_specs = spec_to_integers (codes "f") integers ∷ spec_to_integers (codes "g") (AtomLit (codes "a")) ∷ []
+
+abbrev both_ids : List FunctionId
+both_ids = of_function (codes "f") 1 ∷ of_function (codes "g") 1 ∷ []
+
+both-read : read_specs second_call_wrong ≡ Some both_specs
+both-read = λ j. and_then (spec-read (codes "f") 2 18 (integer_type 2 9) integers (integer-term 2 9) j) (λ a. and_then (and_then (spec-read (codes "g") 4 10 (X.atom_type 4 9) (AtomLit (codes "a")) (atom-term 4 9) j) (λ b. and_then (all_present []) (λ more. Some (b ∷ more)))) (λ more. Some (a ∷ more)))
+
+both-are : specs_of second_call_wrong ≡ both_specs
+unfolding specs_of
+both-are = ap (λ (o : Option (List FunSpec)). unwrap_or o []) both-read
+
+apart : of_function (codes "f") 1 ≡ of_function (codes "g") 1 → ⊥
+apart e = true≢false (ap (λ (id : FunctionId). same_name id.name (codes "f")) e)
+
+both-distinct : AreDistinct both_ids
+both-distinct = ((λ a. elim a [ inl e ↦ apart e | inr b ↦ b ]), ((λ a. a), tt))
+
+both-among : Every (λ id. Among id both_ids) both_ids
+both-among = (inl refl, (inr (inl refl), tt))
+
+limit-second : HasIntegersInLimit second_call_wrong
+unfolding tokens_of all_below below_limit Rattle.erl_tree.specs.declared.type_expr.TypeKind.TheViews.out-TypeKind denote.Hole.Carrier.out Rattle.erl_tree.specs.declared.pattern.PatternKind.TheViews.out-PatternKind Rattle.erl_tree.specs.declared.expr.ExprKind.TheViews.out-ItemKind Rattle.erl_tree.specs.declared.expr.ExprKind.TheBlock.shown-the_row-ExprKind-0 denote.Hole.Carrier.shown denote.Hole.Carrier.hidden
+limit-second = tokens-in_limit (tokens_of second_call_wrong) (simp (type_tokens_laws, expr_tokens_laws) refl)
+
+call-formed : (column : ℕ) (e : ExprKind) → IsExpr (leaf 5 (column + 2) e) → IsOperand (X.small_call column e)
+call-formed column e w = call (place 5 column) (place 5 (column + 1)) (place 5 (column + 3) ∷ []) (codes "f") (leaf 5 (column + 2) e ∷ []) (last_argument (leaf 5 (column + 2) e) (place 5 (column + 3)) w)
+
+two-formed : IsExpr two_calls
+two-formed = sum Add (X.small_call 9 (E.Int (pos 1))) (X.small_call 16 (E.Var (codes "Y"))) (place 5 14) tt
+    (one_product _ (one_operand _ (call-formed 9 (E.Int (pos 1)) (one_product _ (one_operand _ (integer (place 5 11) (pos 1)))))))
+    (one_operand _ (call-formed 16 (E.Var (codes "Y")) (one_product _ (one_operand _ (variable (place 5 18) (codes "Y"))))))
+
+two-depth : expr_depth two_calls ≡ 3
+two-depth = simp expr_depth_laws refl
+
+leaf-depth : expr_depth (leaf 3 9 (E.Var (codes "X"))) ≡ 1
+leaf-depth = simp expr_depth_laws refl
+
+atom-depth : (line column : ℕ) → type_depth (X.atom_type line column) ≡ 1
+atom-depth line column = simp type_depth_laws refl
+
+two-used : used_in two_calls.kind ≡ codes "Y" ∷ []
+two-used = simp used_laws refl
+
+two-called : called_in two_calls.kind ≡ of_function (codes "f") 1 ∷ of_function (codes "f") 1 ∷ []
+two-called = simp called_laws refl
+
+leaf-formed : IsExpr (leaf 3 9 (E.Var (codes "X")))
+leaf-formed = one_product _ (one_operand _ (variable (place 3 9) (codes "X")))
+
+second-formed : IsWellFormed second_call_wrong
+unfolding IsWellFormed Rattle.erl_tree.specs.declared.type_expr.TypeKind.TheViews.out-TypeKind denote.Hole.Carrier.out Rattle.erl_tree.specs.declared.pattern.PatternKind.TheViews.out-PatternKind Rattle.erl_tree.specs.declared.expr.ExprKind.TheViews.out-ItemKind Rattle.erl_tree.specs.declared.expr.ExprKind.TheBlock.shown-the_row-ExprKind-0 denote.Hole.Carrier.shown denote.Hole.Carrier.hidden
+second-formed = (
+  (refl, (refl, (integer-formed 2 9, tt), omega arith, tt, integer-formed 2 23, refl)),
+  (
+    (refl, (refl, refl, (refl, tt), omega arith, tt, (refl, leaf-formed))),
+    (
+      (refl, (refl, (atom-formed 4 9, tt), omega arith, tt, integer-formed 4 15, refl)),
+      ((refl, (refl, refl, (refl, tt), omega arith, tt, (refl, two-formed))), tt),
+    ),
+  ),
+)
+
+second-readable : IsReadable second_call_wrong
+unfolding Rattle.erl_tree.specs.declared.type_expr.TypeKind.TheViews.out-TypeKind denote.Hole.Carrier.out Rattle.erl_tree.specs.declared.pattern.PatternKind.TheViews.out-PatternKind Rattle.erl_tree.specs.declared.expr.ExprKind.TheViews.out-ItemKind Rattle.erl_tree.specs.declared.expr.ExprKind.TheBlock.shown-the_row-ExprKind-0 denote.Hole.Carrier.shown denote.Hole.Carrier.hidden
+second-readable = record {
+  specs_read = both-read ∙ ap Some (sym both-are);
+  functions_distinct = both-distinct;
+  not_built_in = (refl, (refl, tt));
+  specs_distinct = subst (λ (z : List FunSpec). AreDistinct (map spec_id z)) (sym both-are) both-distinct;
+  specified = subst (λ (z : List FunSpec). Every (λ id. Among id (map spec_id z)) (function_ids second_call_wrong)) (sym both-are) both-among;
+  defined = subst (λ (z : List FunSpec). Every (λ id. Among id (function_ids second_call_wrong)) (map spec_id z)) (sym both-are) both-among;
+  scoped = ((simp used_laws (inl refl, tt), tt), ((simp used_laws (inl refl, tt), tt), tt));
+  calls_defined = (((simp called_laws tt, tt), tt), (((subst (λ z. Every (λ id. Among id both_ids) z) (sym two-called) (inl refl, (inl refl, tt)), tt), tt), tt));
+}
+
+second-shallow : IsShallow second_call_wrong
+unfolding Rattle.erl_tree.specs.declared.type_expr.TypeKind.TheViews.out-TypeKind denote.Hole.Carrier.out Rattle.erl_tree.specs.declared.pattern.PatternKind.TheViews.out-PatternKind Rattle.erl_tree.specs.declared.expr.ExprKind.TheViews.out-ItemKind Rattle.erl_tree.specs.declared.expr.ExprKind.TheBlock.shown-the_row-ExprKind-0 denote.Hole.Carrier.shown denote.Hole.Carrier.hidden
+second-shallow = (
+  (((shallow (integer_type 2 9) (integer-depth 2 9), tt), shallow (integer_type 2 23) (integer-depth 2 23)), tt),
+  (
+    ((omega (arith, leaf-depth), tt), tt),
+    (
+      (((shallow (X.atom_type 4 9) (atom-depth 4 9), tt), shallow (integer_type 4 15) (integer-depth 4 15)), tt),
+      (((omega (arith, two-depth), tt), tt), tt),
+    ),
+  ),
+)
+
+pub second-flat : IsFlatModule second_call_wrong
+unfolding Rattle.erl_tree.specs.declared.type_expr.TypeKind.TheViews.out-TypeKind denote.Hole.Carrier.out Rattle.erl_tree.specs.declared.pattern.PatternKind.TheViews.out-PatternKind Rattle.erl_tree.specs.declared.expr.ExprKind.TheViews.out-ItemKind Rattle.erl_tree.specs.declared.expr.ExprKind.TheBlock.shown-the_row-ExprKind-0 denote.Hole.Carrier.shown denote.Hole.Carrier.hidden
+second-flat = record { well_formed = second-formed; readable = second-readable; distinct_heads = ((((λ x. x), tt), tt), ((((λ x. x), tt), tt), tt)); shallow = second-shallow; in_limit = limit-second }
+
+pub second-wrong : (apply (code_of second_call_wrong []) (V.named_fun (codes "g") 1) (V.atom (codes "a") ∷ []) 3).outcome ≡ V.wrong
+unfolding apply_within Running.then Rattle.erl_tree.specs.declared.type_expr.TypeKind.TheViews.out-TypeKind denote.Hole.Carrier.out Rattle.erl_tree.specs.declared.pattern.PatternKind.TheViews.out-PatternKind Rattle.erl_tree.specs.declared.expr.ExprKind.TheViews.out-ItemKind Rattle.erl_tree.specs.declared.expr.ExprKind.TheBlock.shown-the_row-ExprKind-0 denote.Hole.Carrier.shown denote.Hole.Carrier.hidden
+second-wrong = simp run_laws refl
+
+wrong-good : (o : V.Outcome V.Value) (p : V.Value → Type 0) → o ≡ V.wrong → ends_well o p → ⊥
+wrong-good o p e h = subst (λ z. ends_well z p) e h
+
+pub second-not_safe : IsSafe second_call_wrong (specs_of second_call_wrong) given_definitions → ⊥
+unfolding Rattle.erl_tree.specs.declared.type_expr.TypeKind.TheViews.out-TypeKind denote.Hole.Carrier.out Rattle.erl_tree.specs.declared.pattern.PatternKind.TheViews.out-PatternKind Rattle.erl_tree.specs.declared.expr.ExprKind.TheViews.out-ItemKind Rattle.erl_tree.specs.declared.expr.ExprKind.TheBlock.shown-the_row-ExprKind-0 denote.Hole.Carrier.shown denote.Hole.Carrier.hidden
+second-not_safe h =
+    let r : IsRightRun (program_of (code_of second_call_wrong []) both_specs given_definitions) (apply (code_of second_call_wrong []) (V.named_fun (codes "g") 1) (V.atom (codes "a") ∷ []) 3) integers no_variables =
+    subst (λ (z : List FunSpec). IsSafe second_call_wrong z given_definitions) both-are h [] (small_function (codes "g") 5 20 (codes "Y") two_calls) (record { params = AtomLit (codes "a") ∷ []; result = integers }) no_variables (V.atom (codes "a") ∷ []) 3 (inr (inl refl)) (0, omega arith, refl) tt (λ k. (refl, tt)) in
+    wrong-good _ _ second-wrong r.good.0
+
+-- the type of the call with `a`, which a test decides
+abbrev type_of_second : Test → Term
+type_of_second fits = if fits (AtomLit (codes "a") ∷ []) (integers ∷ []) then integers else Any
+
+abbrev type_of_first : Test → Term
+type_of_first fits = if fits (one_integer (pos 1) ∷ []) (integers ∷ []) then integers else Any
+
+second-owes : (fits : Test) → owed_of fits second_call_wrong
+    ≡ record { function = 0; place = place 3 9; kind = ResultKind; left = integers; right = integers }
+    ∷ record { function = 1; place = place 5 9; kind = CallKind; left = And (Fun (integers ∷ []) integers ∷ []); right = Fun (one_integer (pos 1) ∷ []) (type_of_first fits) }
+    ∷ record { function = 1; place = place 5 16; kind = CallKind; left = And (Fun (integers ∷ []) integers ∷ []); right = Fun (AtomLit (codes "a") ∷ []) (type_of_second fits) }
+    ∷ record { function = 1; place = place 5 9; kind = OperandKind; left = type_of_first fits; right = integers }
+    ∷ record { function = 1; place = place 5 16; kind = OperandKind; left = type_of_second fits; right = integers }
+    ∷ record { function = 1; place = place 5 9; kind = ResultKind; left = integers; right = integers } ∷ []
+unfolding owed_of Rattle.erl_tree.specs.declared.type_expr.TypeKind.TheViews.out-TypeKind denote.Hole.Carrier.out Rattle.erl_tree.specs.declared.pattern.PatternKind.TheViews.out-PatternKind Rattle.erl_tree.specs.declared.expr.ExprKind.TheViews.out-ItemKind Rattle.erl_tree.specs.declared.expr.ExprKind.TheBlock.shown-the_row-ExprKind-0 denote.Hole.Carrier.shown denote.Hole.Carrier.hidden
+second-owes fits = ap (λ z. owed_by_functions fits 0 (functions_of second_call_wrong) z) both-are ∙ simp judge_laws refl
+
+second-refuted : (r : Term) → Refutes (Missing (AtomKey (codes "a") ∷ [])) (And (Fun (integers ∷ []) integers ∷ [])) (Fun (AtomLit (codes "a") ∷ []) r)
+second-refuted r = call-refuted (AtomKey (codes "a") ∷ []) (AtomLit (codes "a") ∷ []) (integers ∷ []) integers r refl (refl, tt) (λ h. h.0)
+
+within-choice : (b : Bool) → IsWithin integers (if b then integers else Any)
+within-choice true = within-same integers
+within-choice false = within-any integers
+
+-- `f(Y)` fails, whichever test of arguments is taken, and the fun that fails for `a` shows it
+pub second-failure : ShowsFirstFailure second_call_wrong (Failed 1 (place 5 16) CallKind (Missing (AtomKey (codes "a") ∷ [])))
+second-failure fits finds = (
+  record {
+    before = record { function = 0; place = place 3 9; kind = ResultKind; left = integers; right = integers } ∷ record { function = 1; place = place 5 9; kind = CallKind; left = And (Fun (integers ∷ []) integers ∷ []); right = Fun (one_integer (pos 1) ∷ []) (type_of_first fits) } ∷ [];
+    left = And (Fun (integers ∷ []) integers ∷ []);
+    right = Fun (AtomLit (codes "a") ∷ []) (type_of_second fits);
+    after = _;
+    listed = second-owes fits;
+    earlier = (within-same integers, (call-within (one_integer (pos 1) ∷ []) (integers ∷ []) integers (type_of_first fits) (within-integers (Some (pos 1)) (Some (pos 1)), tt) (within-choice (fits (one_integer (pos 1) ∷ []) (integers ∷ []))), tt));
+    fails = refuted-fails (Missing (AtomKey (codes "a") ∷ [])) (And (Fun (integers ∷ []) integers ∷ [])) (Fun (AtomLit (codes "a") ∷ []) (type_of_second fits)) (second-refuted (type_of_second fits));
+    refuted = second-refuted (type_of_second fits);
+  },
+  omega arith,
+)
+
+-- ---- ranges
+
+pub range-term : type_term X.range_type ≡ Some X.one_to_three
+range-term = simp type_term_laws refl
+
+pub range-within : IsWithin X.one_to_three integers
+range-within = within-integers (Some (pos 1)) (Some (pos 3))
+
+range-refuted : Refutes (One (IntKey (pos 4))) integers X.one_to_three
+range-refuted = (refl, λ h. false≢true h)
+
+pub range-not_all : IsWithin integers X.one_to_three → ⊥
+range-not_all w = refuted-fails (One (IntKey (pos 4))) integers X.one_to_three range-refuted w
