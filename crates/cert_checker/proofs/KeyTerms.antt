@@ -48,7 +48,7 @@ key-stable (named_fun name arity) = none-stable
 key-stable (closure number environment) = none-stable
 
 -- a term of keys
-pub IsOfKeys : Term → Type 0
+unfoldable pub IsOfKeys : Term → Type 0
 IsOfKeys t = (p q : Program) (k l : ℕ) (i j : Instance) (v : Value) → InTerm p k v t given_definitions i → IsKey v × InTerm q l v t given_definitions j
 
 pub key-in : (t : Term) → IsOfKeys t → (p : Program) (k : ℕ) (i : Instance) (v : Value) → InTerm p k v t given_definitions i → IsKey v

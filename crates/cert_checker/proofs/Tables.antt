@@ -229,3 +229,20 @@ own-arrow m f flat a =
     let o : arrows_of (specs_of m) f.name (clauses_arity f.clauses) ≡ r.arrow ∷ [] = ap (λ (z : FunctionId). arrows_of (specs_of m) z.name z.arity) q ∙ (arrows-found (specs_of m) b.0 b.2 flat.readable.specs_distinct ∙ r.only) in
     let one : Every HasOneArrow (specs_of m) = one-arrow-each (specs_in m.forms) (specs_of m) (forms-specs m.forms (well_formed-forms m flat.well_formed)) flat.readable.specs_read in
     (r.arrow, o, sym (arrow-arity (specs_of m) f.name (clauses_arity f.clauses) r.arrow one (subst (λ (z : List Arrow). Contains z r.arrow) (sym o) (contains-first r.arrow []))))
+
+-- a function with an arrow is in the table
+pub is-specified : (m : Module) (table : List Entry) (name : Name) (arity : ℕ) (arrow : Arrow) → IsFlatModule m → HoldsSpecs m.forms (length m.forms) table → arrows_of (specs_of m) name arity ≡ arrow ∷ [] → (Among (of_function name arity) (ids table) → ⊥) → ⊥
+is-specified m table name arity arrow flat holds e absent = empty (sym e ∙ arrows-none (specs_of m) name arity (λ d.
+    let t : (s : Node SpecKind) × (g : FunSpec) × Among s (specs_in m.forms) × (function_spec s ≡ Some g) × (of_function name arity ≡ spec_id g) = id-tree (specs_in m.forms) (specs_of m) (of_function name arity) flat.readable.specs_read d in
+    let p : (k : ℕ) × (slice_get m.forms k ≡ Some (F.Spec t.0)) = tree-place m.forms t.0 t.2 in
+    let r : IsReadSpec t.0 t.1 = read-spec t.0 t.1 (every-at IsSpec t.0 (specs_in m.forms) (forms-specs m.forms (well_formed-forms m flat.well_formed)) t.2) t.3 in
+    absent (subst (λ z. Among z (ids table)) (sym (t.4 ∙ r.named)) (holds.complete p.0 t.0 (slice_get_within m.forms p.0 (F.Spec t.0) p.1) p.1))))
+  where
+    empty : arrow ∷ [] ≡ [] → ⊥
+    empty e = cc
+
+-- an arrow of a function of a flat module has as many parameters as the function
+pub arrow-length-of : (m : Module) (name : Name) (arity : ℕ) (arrow : Arrow) → IsFlatModule m → arrows_of (specs_of m) name arity ≡ arrow ∷ [] → length arrow.params ≡ arity
+arrow-length-of m name arity arrow flat e =
+    let one : Every HasOneArrow (specs_of m) = one-arrow-each (specs_in m.forms) (specs_of m) (forms-specs m.forms (well_formed-forms m flat.well_formed)) flat.readable.specs_read in
+    arrow-arity (specs_of m) name arity arrow one (subst (λ (z : List Arrow). Contains z arrow) (sym e) (contains-first arrow []))

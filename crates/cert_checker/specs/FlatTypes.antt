@@ -1,75 +1,118 @@
--- The terms of the types of flat modules.
-use Rattle.std.specs.Prelude.{ℕ, ℤ, List, [], ◌∷◌, map, Bool, true, false, Option, Some, None, if◌then◌else◌}
-use Rattle.std.specs.List.{list_any}
-use Rattle.std.specs.Str.{bytes_eq}
-use Rattle.type_terms.specs.Keys.{Name, same_name}
-use Rattle.type_terms.specs.declared.term.Term.{Term, Ints, AtomLit, AnyAtom}
-use Rattle.type_terms.specs.declared.spec.Arrow.{Arrow}
-use Rattle.erl_tree.specs.declared.token.Place.{Place}
+-- The types of flat modules as tests of keys: which integers and atoms are values of a type; and the integers that stand in types and expressions.
+use Rattle.std.specs.Prelude.{◌≡◌, ◌↔◌, ℕ, ℤ, ◌++◌, List, [], ◌∷◌, Bool, true, false, ◌&&◌, nat_le, Option, Some}
+use Rattle.std.specs.Int.RustNames.{unsigned_abs}
+use Rattle.type_terms.specs.declared.term.Key.{Key}
+use Rattle.type_terms.specs.declared.term.Key.TheVariants.{Int as IntKey, Atom as AtomKey}
+use Rattle.type_terms.specs.declared.term.Term.{Term}
+use Rattle.type_terms.specs.Definitions.{given_definitions}
+use Rattle.type_terms.specs.Instances.{Instance}
+use Rattle.key_sets.specs.declared.key_set.KeySet.{KeySet}
+use Rattle.key_sets.specs.declared.part.Part.{Part}
+use Rattle.key_sets.specs.KeySets.{has}
+use Rattle.key_sets.specs.Parts.{IsLimited, AreLimited, part_has, parts_have}
 use Rattle.erl_tree.specs.declared.token.Node.{Node}
-use Rattle.erl_tree.specs.declared.expr.ExprKind.{ExprKind}
-use Rattle.erl_tree.specs.declared.expr.ItemKind.{ItemKind, out-ItemKind}
-use Rattle.cert_checker.specs.Constraints.{Constraint, expression_type, owed_result, owed_by_item}
-use Rattle.erl_tree.specs.declared.type_expr.TypeKind.{TypeKind}
+use Rattle.erl_tree.specs.declared.pattern.LiteralKind.{LiteralKind}
+use Rattle.erl_tree.specs.declared.pattern.LiteralKind.TheVariants as L
+use Rattle.erl_tree.specs.declared.type_expr.TypeKind.{TypeKind, fold-TypeKind}
 use Rattle.erl_tree.specs.declared.type_expr.TypeKind.TheOpen as Y
-use Rattle.erl_tree.specs.declared.pattern.PatternKind.{PatternKind, out-PatternKind}
-use Rattle.erl_tree.specs.Specs.{type_term_layer, type_term, all_present}
-use Rattle.erl_tree.specs.Readable.{is_wildcard, bound_layer}
-use Rattle.cert_checker.specs.declared.flat_type.FlatType.{FlatType}
-use Rattle.cert_checker.specs.declared.flat_type.FlatType.TheVariants.{Integers, OneInteger, Atoms, OneAtom}
+use Rattle.erl_tree.specs.declared.expr.ExprKind.{ExprKind, fold-ExprKind}
+use Rattle.erl_tree.specs.declared.expr.ExprKind.TheOpen as E
+use Rattle.erl_tree.specs.Grammar.{IsType, IsExpr}
+use Rattle.erl_tree.specs.Limits.{integer_limit}
+use Rattle.erl_tree.specs.Specs.{and_then, end_of, range, type_term}
+use Rattle.erl_tree.specs.Value.{Value, integer, atom}
+use Rattle.erl_tree.specs.Membership.{Program, InTerm}
 
--- the term of a flat type
-abbrev pub term_of : FlatType → Term
-term_of Integers = Ints None None
-term_of (OneInteger n) = Ints (Some n) (Some n)
-term_of Atoms = AnyAtom
-term_of (OneAtom a) = AtomLit a
+-- ---- sets of values
 
--- all integers
-abbrev pub integers : Term
-integers = Ints None None
+-- whether a value is an integer or atom that a test has
+abbrev pub has_value : (Key → Bool) → Value → Bool
+has_value test (integer n) = test (IntKey n)
+has_value test (atom a) = test (AtomKey a)
+has_value test _ = false
 
--- one integer
-abbrev pub one_integer : ℤ → Term
-one_integer n = Ints (Some n) (Some n)
+-- the values of a term are the integers and atoms of a test: of every program, under every instance, at every level. There is one
+pub record HasValuesOf (test : Key → Bool) (t : Term) : Type 0 where
+  pub same : (program : Program) (i : Instance) (k : ℕ) (v : Value) → InTerm program k v t given_definitions i ↔ (has_value test v ≡ true)
+  pub some : (key : Key) × (test key ≡ true)
 
--- whether an atom is in a flat type
-abbrev pub has_atom : Name → FlatType → Bool
-has_atom x Atoms = true
-has_atom x (OneAtom a) = bytes_eq x a
-has_atom x _ = false
+-- a set of the values of a term
+abbrev pub IsSetOf : KeySet → Term → Type 0
+IsSetOf set t = HasValuesOf (has set) t
 
--- the term of a flat type that is there
-abbrev pub term_if : Option FlatType → Option Term
-term_if None = None
-term_if (Some t) = Some (term_of t)
+-- as many sets as terms, each of its term's values
+abbrev pub AreSetsOf : List KeySet → List Term → Type 0
+AreSetsOf [] [] = Unit {0}
+AreSetsOf (s ∷ ss) (t ∷ ts) = IsSetOf s t × AreSetsOf ss ts
+AreSetsOf _ _ = ⊥
 
--- the term of a use of a type by its name
-abbrev pub use_term : Option Name → Name → List (Node TypeKind) → Option Term
-use_term prefix name args = type_term_layer (Y.Use prefix name args)
+-- a part of a set that has the values of a term
+abbrev pub IsPartOf : Part → Term → Type 0
+IsPartOf part t = HasValuesOf (part_has part) t × IsLimited part
 
--- the terms of type expressions that all have one
-abbrev pub all_terms : List (Node TypeKind) → Option (List Term)
-all_terms ts = all_present (map type_term ts)
+-- parts of a set of a term's values came to the end of a list
+pub record AddsPartsOf (t : Term) (old new : List Part) : Type 0 where
+  pub added : List Part
+  pub joined : new ≡ old ++ added
+  pub limited : AreLimited added
+  pub values : HasValuesOf (parts_have added) t
 
--- whether a pattern binds this name
-abbrev pub is_bound_by : Name → Node PatternKind → Bool
-is_bound_by x p = list_any (same_name x) (bound_layer (out-PatternKind p.kind))
+-- ---- the integers in types and expressions
 
--- whether a variable is this name, and not the wildcard
-abbrev pub is_this_variable : (variable name : Name) → Bool
-is_this_variable y x = list_any (same_name x) (if is_wildcard y then [] else y ∷ [])
+-- whether an integer's absolute value is at most the limit
+abbrev pub is_limited : ℤ → Bool
+is_limited n = nat_le (unsigned_abs n) integer_limit
 
--- what an expression owes, where the result has a term
-abbrev pub owed_if : ℕ → Place → Option Term → Option Term → List Constraint
-owed_if function place type None = []
-owed_if function place type (Some result) = owed_result function place type result
+-- the same of the integer of a range's end
+abbrev pub is_limited_end : LiteralKind → Bool
+is_limited_end (L.Int n) = is_limited n
+is_limited_end (L.NegInt n) = is_limited n
+is_limited_end _ = true
 
--- what an expression owes
-abbrev pub owed_by_expression : ℕ → Node ExprKind → List (Node PatternKind) → Arrow → List Constraint
-owed_by_expression function e patterns arrow = owed_result function e.place (expression_type e patterns arrow.params) arrow.result
+-- the same of one level of a type, of whose parts it is known
+abbrev pub limited_type_layer : Y.TypeKind-F Bool (Unit {0}) → Bool
+limited_type_layer (Y.Int n) = is_limited n
+limited_type_layer (Y.NegInt n) = is_limited n
+limited_type_layer (Y.Paren t) = t.kind
+limited_type_layer (Y.Or t u) = t.kind && u.kind
+limited_type_layer (Y.Range low high) = is_limited_end low.kind && is_limited_end high.kind
+limited_type_layer _ = true
 
--- what the first element of a body owes
-abbrev pub owed_by_first : ℕ → List (Node ItemKind) → List (Node PatternKind) → Arrow → List Constraint
-owed_by_first function [] patterns arrow = []
-owed_by_first function (i ∷ items) patterns arrow = owed_by_item function (out-ItemKind i.kind) patterns arrow
+-- whether each integer in a type is in the limit
+unfoldable pub is_limited_type : TypeKind → Bool
+is_limited_type t = fold-TypeKind Bool (Unit {0}) limited_type_layer (λ part. tt) t
+
+-- whether it is known of all nodes
+abbrev pub all_limited : List (Node Bool) → Bool
+all_limited [] = true
+all_limited (n ∷ ns) = n.kind && all_limited ns
+
+-- the same of one level of an expression
+abbrev pub limited_expr_layer : E.ExprKind-F Bool (Unit {0}) (Unit {0}) (Unit {0}) (Unit {0}) (Unit {0}) → Bool
+limited_expr_layer (E.Int n) = is_limited n
+limited_expr_layer (E.Paren e) = e.kind
+limited_expr_layer (E.Binary op a b) = a.kind && b.kind
+limited_expr_layer (E.Call prefix name args) = all_limited args
+limited_expr_layer _ = true
+
+-- whether each integer in an expression is in the limit
+unfoldable pub is_limited_expr : ExprKind → Bool
+is_limited_expr e = fold-ExprKind Bool (Unit {0}) (Unit {0}) (Unit {0}) (Unit {0}) (Unit {0}) limited_expr_layer (λ i. tt) (λ q. tt) (λ a. tt) (λ c. tt) (λ c. tt) e
+
+-- ---- types and expressions of flat modules
+
+-- the term of the range between two literals
+abbrev pub range_term : Node LiteralKind → Node LiteralKind → Option Term
+range_term low high = and_then (end_of low.kind) (λ l. and_then (end_of high.kind) (λ h. range l h))
+
+-- a type of a flat module: well formed, with integers in the limit and a term
+pub record IsFlatType (t : Node TypeKind) : Type 0 where
+  pub well_formed : IsType t
+  pub limited : is_limited_type t.kind ≡ true
+  pub term : Term
+  pub read : type_term t ≡ Some term
+
+-- an expression of a flat module: well formed, with integers in the limit
+pub record IsFlatExpr (e : Node ExprKind) : Type 0 where
+  pub well_formed : IsExpr e
+  pub limited : is_limited_expr e.kind ≡ true

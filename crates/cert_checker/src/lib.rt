@@ -2,14 +2,17 @@
 #![tactic(auto)]
 
 mod body_check;
-mod body_type;
+mod call_check;
 mod checks;
+mod comparison;
 pub mod examples;
+mod expression_type;
 mod flat_type;
 pub mod laws;
-mod outside;
 mod refusal;
+mod scope;
 mod spec_table;
+mod variables;
 
 pub use checks::check_first;
 pub use refusal::{FirstRefusal, Shown};

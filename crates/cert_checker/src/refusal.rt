@@ -2,6 +2,7 @@ ghost use Rattle.std.specs.Prelude.{◌≡◌};
 ghost use Rattle.cert_checker.specs.declared.refusal.FirstRefusal.TheVariants as refusals;
 
 use erl_tree::Place;
+use std::alloc::AllocError;
 use type_terms::{Key, Kind, List, NoMemory};
 
 /// An element of the left side of a constraint that isn't in its right side.
@@ -34,6 +35,14 @@ impl From<NoMemory> for FirstRefusal {
     ghost from_gives = { λ _ e. e ≡ refusals.NoMemory };
 
     fn from(_error: NoMemory) -> FirstRefusal {
+        FirstRefusal::NoMemory
+    }
+}
+
+impl From<AllocError> for FirstRefusal {
+    ghost from_gives = { λ _ e. e ≡ refusals.NoMemory };
+
+    fn from(_error: AllocError) -> FirstRefusal {
         FirstRefusal::NoMemory
     }
 }

@@ -1,25 +1,34 @@
-use crate::flat_type::FlatType;
-use crate::outside::first_outside;
+use crate::comparison::{check_operands, check_within};
+use crate::expression_type::{ExpressionType, integers};
+use crate::refusal::{FirstRefusal, Shown};
+use crate::scope::Scope;
+use crate::spec_table::spec_table;
+use erl_tree::Place;
 use std::test::*;
-use type_terms::{Key, Text};
+use type_terms::{Key, Kind, List, Text};
 
-#[test]
-fn an_atom_that_is_not_the_one(rt: HostRuntime) -> Result<(), Fail> {
-    let alloc = rt.alloc();
-    let name = Text::from_slice(alloc, b"a".as_slice())?;
-    let found = first_outside(alloc, &FlatType::Atoms, &FlatType::OneAtom(name)).ok();
-    let shown = match &found {
-        Some(Some(Key::Atom(shown))) => shown.as_slice() == b"b".as_slice(),
-        _ => false,
-    };
-    assert!(rt; shown);
-    Ok(())
+/// A place in the first line.
+fn place(column: u32) -> Place {
+    Place { line: 1, column }
 }
 
 #[test]
-fn one_integer_is_an_integer(rt: HostRuntime) -> Result<(), Fail> {
+fn an_integer_is_one_of_all_integers(rt: HostRuntime) -> Result<(), Fail> {
     let alloc = rt.alloc();
-    let found = first_outside(alloc, &FlatType::OneInteger(7), &FlatType::Integers).ok();
-    assert!(rt; matches!(&found, Some(None)));
+    let table = spec_table(alloc, &List::new(alloc)).ok();
+    if let Some(table) = &table {
+        let scope = Scope {
+            table,
+            number: 3,
+            patterns: &List::new(alloc),
+            params: &List::new(alloc),
+        };
+        let all = integers(alloc).ok();
+        if let Some(all) = &all {
+            let found = ExpressionType::OneInteger(7).first_outside(alloc, &scope, all);
+            assert!(rt; matches!(&found, Ok(None)));
+        }
+    }
+    assert!(rt; table.is_some());
     Ok(())
 }

@@ -1,5 +1,0 @@
-use Rattle.cert_checker.specs.SpecTables.{HoldsSpecs}
-use Rattle.cert_checker.proofs.spec_table.spec_table.Given as goal
-
-abbrev pub invariant-loop-at : goal.invariant-loop-at
-invariant-loop-at l = HoldsSpecs l.forms l.at l.table
