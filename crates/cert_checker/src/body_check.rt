@@ -112,7 +112,14 @@ fn check_expression(
         ExprKind::Binary(_, left, right) => {
             let left_type = check_expression(alloc, scope, left)?;
             let right_type = check_expression(alloc, scope, right)?;
-            check_operands(alloc, scope, left.place, &left_type, right.place, &right_type)?;
+            check_operands(
+                alloc,
+                scope,
+                left.place,
+                &left_type,
+                right.place,
+                &right_type,
+            )?;
             Ok(ExpressionType::Integers)
         }
         ExprKind::Call { name, args, .. } => {
