@@ -1,16 +1,15 @@
 -- Types and sets in turn, place by place.
 use Rattle.std.proofs.Common.{◌≡◌, refl, sym, ◌∙◌, ap, subst, ℕ, zero, suc, ◌+◌, ◌<◌, List, [], ◌∷◌, ◌++◌, length, take, arith}
-use Rattle.std.specs.Prelude.{Option, Some, None, slice_get, slice_set}
+use Rattle.std.specs.Prelude.{Some, slice_get, slice_set}
 use Rattle.type_terms.specs.declared.term.Key.{Key}
 use Rattle.type_terms.specs.declared.term.Term.{Term}
 use Rattle.type_terms.specs.Definitions.{given_definitions}
 use Rattle.type_terms.specs.Instances.{no_variables}
 use Rattle.key_sets.specs.declared.key_set.KeySet.{KeySet}
-use Rattle.erl_tree.specs.Lists.{Every}
 use Rattle.cert_checker.specs.declared.expression_type.ExpressionType.{ExpressionType}
 use Rattle.cert_checker.specs.declared.scope.Scope.{Scope}
 use Rattle.cert_checker.specs.Constraints.{IsWithin, AreWithin}
-use Rattle.cert_checker.specs.Failures.{KeyIn, keys_in, IsCompared, Refutes}
+use Rattle.cert_checker.specs.Failures.{KeyIn, keys_in, Refutes}
 use Rattle.cert_checker.specs.declared.refusal.Shown.TheVariants.{One}
 use Rattle.cert_checker.specs.FlatTypes.{IsSetOf, AreSetsOf}
 use Rattle.cert_checker.specs.Judging.{StandsFor, StandForAll}

@@ -1,6 +1,6 @@
 -- The type of a variable of a head, by the place of the pattern that binds it.
 use Rattle.std.proofs.Common.{◌≡◌, refl, sym, ◌∙◌, ap, ℕ, zero, suc, ◌+◌, ◌<◌, List, [], ◌∷◌, length, arith}
-use Rattle.std.specs.Prelude.{Bool, true, false, ◌&&◌, ◌||◌, Option, Some, None, nat_eq, slice_get, if◌then◌else◌}
+use Rattle.std.specs.Prelude.{Bool, true, false, ◌&&◌, ◌||◌, Some, None, nat_eq, slice_get, if◌then◌else◌}
 use Rattle.std.specs.Str.{bytes_eq}
 use Rattle.std.specs.List.{list_any}
 use Rattle.std.proofs.lemmas.Bool.{true≢false, eqb-true, eq-eqb}
@@ -10,10 +10,8 @@ use Rattle.erl_tree.specs.declared.token.Node.{Node}
 use Rattle.erl_tree.specs.declared.pattern.PatternKind.{PatternKind}
 use Rattle.erl_tree.specs.Readable.{is_wildcard}
 use Rattle.cert_checker.specs.Constraints.{variable_type}
-use Rattle.key_sets.specs.declared.key_set.KeySet.{KeySet}
 use Rattle.cert_checker.specs.declared.expression_type.ExpressionType.TheVariants.{Parameter}
 use Rattle.cert_checker.specs.declared.scope.Scope.{Scope}
-use Rattle.cert_checker.specs.FlatTypes.{IsSetOf, AreSetsOf}
 use Rattle.cert_checker.specs.Judging.{Setting, StandsFor, context_of, is_bound_by, is_this_variable}
 use Rattle.cert_checker.proofs.Arguments.{sets-of}
 use Rattle.cert_checker.proofs.Lists.{none-some, some-inj}

@@ -1,9 +1,8 @@
 -- What is found of a call, in each setting.
-use Rattle.std.proofs.Common.{◌≡◌, refl, sym, ◌∙◌, ap, subst, ℕ, ◌+◌, ◌<◌, List, [], ◌∷◌, ◌++◌, length, arith}
-use Rattle.std.specs.Prelude.{Bool, true, Option, Some, None, slice_get, if◌then◌else◌}
+use Rattle.std.proofs.Common.{◌≡◌, sym, ◌∙◌, ap, subst, ℕ, ◌+◌, List, [], ◌∷◌, length}
+use Rattle.std.specs.Prelude.{Bool, Some, None, slice_get, if◌then◌else◌}
 use Rattle.type_terms.specs.declared.term.Term.{Term, Any, And, Fun}
 use Rattle.type_terms.specs.declared.spec.Arrow.{Arrow}
-use Rattle.type_terms.specs.declared.spec.Kind.{Kind}
 use Rattle.type_terms.specs.declared.spec.Kind.TheVariants.{Call}
 use Rattle.type_terms.specs.Keys.{Name}
 use Rattle.type_terms.specs.Instances.{no_variables}
@@ -15,36 +14,32 @@ use Rattle.erl_tree.specs.declared.token.Place.{Place}
 use Rattle.erl_tree.specs.Lists.{Every, Among}
 use Rattle.erl_tree.specs.Functions.{of_function}
 use Rattle.erl_tree.specs.Membership.{arrows_of}
-use Rattle.function_table.specs.Table.{IsFound, ids}
+use Rattle.function_table.specs.Table.{ids}
 use Rattle.cert_checker.specs.declared.refusal.FirstRefusal.{FirstRefusal}
 use Rattle.cert_checker.specs.declared.refusal.FirstRefusal.TheVariants.{NoMemory, Failed}
 use Rattle.cert_checker.specs.declared.refusal.Shown.TheVariants.{One, Missing}
 use Rattle.cert_checker.specs.declared.spec_table.FunctionTypes.{FunctionTypes}
-use Rattle.cert_checker.specs.declared.spec_table.FormTypes.{FormTypes}
 use Rattle.cert_checker.specs.declared.spec_table.FormTypes.TheVariants.{Spec}
 use Rattle.cert_checker.specs.declared.expression_type.ExpressionType.{ExpressionType}
 use Rattle.cert_checker.specs.declared.expression_type.ExpressionType.TheVariants.{ResultAt}
 use Rattle.cert_checker.specs.declared.scope.Scope.{Scope}
 use Rattle.cert_checker.specs.Constraints.{IsWithin, AreWithin, Holds, arrow_term}
-use Rattle.cert_checker.specs.Failures.{ShowsFailure, Refutes, keys_in}
+use Rattle.cert_checker.specs.Failures.{ShowsFailure, Refutes}
 use Rattle.cert_checker.specs.FlatTypes.{IsSetOf, AreSetsOf}
 use Rattle.cert_checker.specs.SpecTables.{HasTypesOf}
-use Rattle.cert_checker.specs.Judging.{Setting, HoldsTypes, StandsFor, StandForAll, IsCall, MissesParameters, owed_one, type_of_call, owed_call}
-use Rattle.cert_checker.proofs.Lists.{some-inj, none-some}
+use Rattle.cert_checker.specs.Judging.{Setting, StandsFor, StandForAll, IsCall, MissesParameters, type_of_call, owed_call}
 use Rattle.cert_checker.proofs.KeyTerms.{IsOfKeys}
 use Rattle.cert_checker.proofs.Calls.{call-within, call-fails, within-same}
 use Rattle.cert_checker.proofs.Comparisons.{values-of_keys}
 use Rattle.cert_checker.proofs.Arguments.{keys_of, keys-length, stand-length, sets-length}
 use Rattle.cert_checker.proofs.Failing.{one-fails}
 use Rattle.std.proofs.Math.Path.{transport}
-use Rattle.std.specs.Prelude.{nat_eq}
 use Rattle.std.proofs.lemmas.Bool.{eq-eqb}
 use Rattle.type_terms.proofs.ReadingLaws.{read-And, read-Fun}
 use Rattle.cert_checker.specs.declared.expression_type.ExpressionType.TheVariants.{Integers, OneInteger, OneAtom, Parameter}
 use Rattle.cert_checker.specs.Failures.{shown_layer}
 use Rattle.cert_checker.proofs.KeyTerms.{ints-keys, atom-keys}
 use Rattle.erl_tree.specs.Membership.{no_tag}
-use Rattle.cert_checker.specs.Constraints.{call_type}
 
 -- ---- terms of keys
 

@@ -1,21 +1,19 @@
 -- What comparisons of sets say of the terms whose values they have.
-use Rattle.std.proofs.Common.{◌≡◌, refl, sym, ◌∙◌, ap, subst, ℕ, ℤ, List, [], ◌∷◌, ◌++◌, length, ◌↔◌}
+use Rattle.std.proofs.Common.{◌≡◌, refl, sym, ◌∙◌, ap, subst, ℕ, ℤ, List, [], ◌∷◌}
 use Rattle.std.specs.Prelude.{Bool, true, false, ◌||◌, Option, Some, None, MatchOption, slice_get}
 use Rattle.std.proofs.lemmas.Bool.{false≢true}
 use Rattle.type_terms.specs.declared.term.Key.{Key}
 use Rattle.type_terms.specs.declared.term.Key.TheVariants.{Int as IntKey, Atom as AtomKey}
 use Rattle.type_terms.specs.declared.term.Term.{Term, AtomLit}
 use Rattle.type_terms.specs.Keys.{Name}
-use Rattle.type_terms.specs.Definitions.{given_definitions}
-use Rattle.type_terms.specs.Instances.{Instance, no_variables}
+use Rattle.type_terms.specs.Instances.{no_variables}
 use Rattle.key_sets.specs.declared.key_set.KeySet.{KeySet}
 use Rattle.key_sets.specs.declared.part.Part.{Part}
-use Rattle.key_sets.specs.declared.part.Part.TheVariants.{Integers, Atom}
 use Rattle.key_sets.specs.KeySets.{has}
 use Rattle.key_sets.specs.Parts.{part_has, parts_have}
 use Rattle.erl_tree.specs.Specs.{one_integer}
 use Rattle.erl_tree.specs.Value.{Value, integer, atom, nil, cons, tuple, map_of, named_fun, closure}
-use Rattle.erl_tree.specs.Membership.{Program, InTerm}
+use Rattle.erl_tree.specs.Membership.{Program}
 use Rattle.erl_tree.specs.Running.{still_going}
 use Rattle.cert_checker.specs.declared.refusal.Shown.TheVariants.{One}
 use Rattle.cert_checker.specs.declared.spec_table.FunctionTypes.{FunctionTypes}

@@ -1,6 +1,5 @@
 -- First failures among constraints, and among more constraints before and after them.
-use Rattle.std.proofs.Common.{◌≡◌, refl, sym, ◌∙◌, ap, subst, ℕ, ◌+◌, ◌<◌, List, [], ◌∷◌, ◌++◌, arith, append_assoc}
-use Rattle.std.specs.Prelude.{Option, Some}
+use Rattle.std.proofs.Common.{refl, sym, ◌∙◌, ap, subst, ℕ, ◌+◌, ◌<◌, List, [], ◌∷◌, ◌++◌, arith, append_assoc}
 use Rattle.std.proofs.lemmas.List.{append-nil}
 use Rattle.type_terms.specs.declared.term.Key.{Key}
 use Rattle.type_terms.specs.declared.term.Term.{Term}

@@ -4,10 +4,9 @@ use Rattle.std.specs.Prelude.{Bool, true, ◌&&◌, Option, Some, None, neg_ℤ}
 use Rattle.std.proofs.lemmas.Bool.{and_parts}
 use Rattle.type_terms.specs.declared.term.Term.{Term, Or, AtomLit}
 use Rattle.type_terms.specs.Keys.{Name}
-use Rattle.erl_tree.specs.declared.token.Place.{Place}
 use Rattle.erl_tree.specs.declared.token.Node.{Node}
 use Rattle.erl_tree.specs.declared.pattern.LiteralKind.{LiteralKind}
-use Rattle.erl_tree.specs.declared.type_expr.TypeKind.{TypeKind, out-TypeKind, roll-TypeKind, roll-out-TypeKind, fold-TypeKind, fold-roll-TypeKind}
+use Rattle.erl_tree.specs.declared.type_expr.TypeKind.{TypeKind, out-TypeKind, roll-TypeKind, roll-out-TypeKind, fold-roll-TypeKind}
 use Rattle.erl_tree.specs.declared.type_expr.MapPart.{MapPart}
 use Rattle.erl_tree.specs.declared.type_expr.TypeKind.TheVariants as Y
 use Rattle.erl_tree.specs.declared.type_expr.TypeKind.TheOpen as L

@@ -1,10 +1,8 @@
 -- What is said of the one expression of a function's body.
-use Rattle.std.proofs.Common.{◌≡◌, refl, sym, ◌∙◌, ap, subst, ℕ, ◌+◌, List, [], ◌∷◌, ◌++◌}
-use Rattle.std.specs.Prelude.{Option, Some, None, slice_get}
+use Rattle.std.proofs.Common.{◌≡◌, sym, ◌∙◌, ap, subst, ◌+◌, List, [], ◌∷◌}
+use Rattle.std.specs.Prelude.{Some, None, slice_get}
 use Rattle.type_terms.specs.declared.term.Term.{Term}
-use Rattle.key_sets.specs.declared.key_set.KeySet.{KeySet}
 use Rattle.erl_tree.specs.declared.token.Node.{Node}
-use Rattle.erl_tree.specs.declared.pattern.PatternKind.{PatternKind}
 use Rattle.erl_tree.specs.declared.expr.ExprKind.{ExprKind}
 use Rattle.erl_tree.specs.declared.expr.ExprKind.TheOpen as E
 use Rattle.erl_tree.specs.declared.expr.ItemKind.{ItemKind, out-ItemKind}
@@ -16,7 +14,7 @@ use Rattle.erl_tree.specs.Lists.{Every}
 use Rattle.cert_checker.specs.declared.refusal.FirstRefusal.{FirstRefusal}
 use Rattle.cert_checker.specs.declared.spec_table.FunctionTypes.{FunctionTypes}
 use Rattle.cert_checker.specs.declared.scope.Scope.{Scope}
-use Rattle.cert_checker.specs.Constraints.{Constraint, Judged, Holds, judge, variable_type, owed_result}
+use Rattle.cert_checker.specs.Constraints.{Judged, Holds, judge, variable_type, owed_result}
 use Rattle.cert_checker.specs.Failures.{ShowsFailure}
 use Rattle.cert_checker.specs.FlatTypes.{IsSetOf, AreSetsOf}
 use Rattle.cert_checker.specs.Judging.{Setting, JudgedBy, IsBodyOf, IsJudgedBody, owed_in, FunctionSetting, IsClauseOf, ClauseJudgedBy, AreJudgedClauses}

@@ -1,7 +1,7 @@
 -- The integers of a module's types and expressions are in the limit, since those of its tokens are.
-use Rattle.std.proofs.Common.{◌≡◌, refl, sym, ◌∙◌, ap, subst, ℕ, suc, ◌<◌, ◌≤◌, List, [], ◌∷◌, ◌++◌, map, length, arith}
-use Rattle.std.specs.Prelude.{Bool, true, false, ◌&&◌, ℤ, pos, negsuc, nat_le, Some, None, codes}
-use Rattle.std.proofs.lemmas.Bool.{le-leb, and_from}
+use Rattle.std.proofs.Common.{◌≡◌, refl, ◌∙◌, subst, ℕ, suc, ◌<◌, List, [], ◌∷◌, map, length, arith}
+use Rattle.std.specs.Prelude.{Bool, true, false, ℤ, pos, negsuc, nat_le, Some, codes}
+use Rattle.std.proofs.lemmas.Bool.{and_from}
 use Rattle.erl_tree.specs.declared.token.Place.{Place}
 use Rattle.erl_tree.specs.declared.token.Placed.{Placed}
 use Rattle.erl_tree.specs.declared.token.Node.{Node}
@@ -9,16 +9,14 @@ use Rattle.erl_tree.specs.declared.token.Token.TheVariants as T
 use Rattle.erl_tree.specs.declared.pattern.LiteralKind.{LiteralKind}
 use Rattle.erl_tree.specs.declared.pattern.LiteralKind.TheVariants as L
 use Rattle.erl_tree.specs.declared.type_expr.TypeKind.{TypeKind}
-use Rattle.erl_tree.specs.declared.type_expr.TypeKind.TheVariants as Y
 use Rattle.erl_tree.specs.declared.expr.BinaryOp.{BinaryOp}
 use Rattle.erl_tree.specs.declared.expr.BinaryOp.TheVariants.{Add, Sub, Mul}
 use Rattle.erl_tree.specs.declared.expr.ExprKind.{ExprKind}
-use Rattle.erl_tree.specs.declared.expr.ExprKind.TheVariants as X
 use Rattle.erl_tree.specs.Lists.{Every}
 use Rattle.erl_tree.specs.Limits.{integer_limit, IsInLimit}
-use Rattle.erl_tree.specs.Grammar.{IsEnd, is_end_layer, IsType, one_type, union, IsSimpleType, atom_type, integer_type, negative_type, range_type, use_type, paren_type, IsAdditive, IsExpr, one_product, sum, IsProduct, one_operand, product, IsOperand, integer, atom, variable, parens, call as call_operand, AreArguments, no_arguments, last_argument, more_arguments, AreParamMarks}
-use Rattle.erl_tree.specs.Spelling.{at, mark, literal_tokens, literal_layer, type_tokens, expr_tokens, operator_text, operation_tokens, params_tokens, arguments_tokens}
-use Rattle.erl_tree.proofs.TreeLaws.{type_shown-Atom, type_shown-Int, type_shown-NegInt, type_shown-Paren, type_shown-Or, type_shown-Range, type_shown-Use, expr_shown-Int, expr_shown-Paren, expr_shown-Binary, expr_shown-Call}
+use Rattle.erl_tree.specs.Grammar.{is_end_layer, IsType, one_type, union, IsSimpleType, atom_type, integer_type, negative_type, range_type, use_type, paren_type, IsAdditive, IsExpr, one_product, sum, IsProduct, one_operand, product, IsOperand, integer, atom, variable, parens, call as call_operand, AreArguments, no_arguments, last_argument, more_arguments, AreParamMarks}
+use Rattle.erl_tree.specs.Spelling.{mark, literal_tokens, literal_layer, type_tokens, expr_tokens, operator_text, operation_tokens, params_tokens, arguments_tokens}
+use Rattle.erl_tree.proofs.TreeLaws.{type_shown-Int, type_shown-NegInt, type_shown-Paren, type_shown-Or, type_shown-Range, expr_shown-Int, expr_shown-Paren, expr_shown-Binary, expr_shown-Call}
 use Rattle.cert_checker.specs.FlatTypes.{is_limited, is_limited_end, is_limited_type, is_limited_expr}
 use Rattle.cert_checker.proofs.Lists.{every-split}
 use Rattle.cert_checker.proofs.FlatForms.{limited-Int as type-Int, limited-NegInt as type-NegInt, limited-Paren as type-Paren, limited-Or as type-Or, limited-Range as type-Range, limited-Atom as type-Atom, limited-Use as type-Use}

@@ -5,7 +5,6 @@ use Rattle.std.specs.List.{list_any, Contains}
 use Rattle.type_terms.specs.declared.term.Term.{Term}
 use Rattle.type_terms.specs.declared.spec.Arrow.{Arrow}
 use Rattle.type_terms.specs.declared.spec.FunSpec.{FunSpec}
-use Rattle.type_terms.specs.declared.spec.Kind.TheVariants.{Call}
 use Rattle.type_terms.specs.Keys.{Name, same_name}
 use Rattle.type_terms.proofs.KeyLaws.{name-refl}
 use Rattle.type_terms.proofs.Contained.{contains-first}

@@ -1,11 +1,9 @@
 -- What is said of an expression, by what is said of its parts.
-use Rattle.std.proofs.Common.{◌≡◌, refl, sym, ◌∙◌, ap, subst, ℕ, suc, ℤ, ◌+◌, List, [], ◌∷◌, ◌++◌, length, take, append_assoc}
+use Rattle.std.proofs.Common.{◌≡◌, refl, sym, ◌∙◌, ap, subst, ℕ, ℤ, ◌+◌, List, [], ◌∷◌, ◌++◌, length, take, append_assoc}
 use Rattle.std.specs.Prelude.{Bool, true, false, Option, Some, None, slice_get}
 use Rattle.type_terms.specs.declared.term.Term.{Term, AtomLit}
 use Rattle.type_terms.specs.declared.spec.Arrow.{Arrow}
-use Rattle.type_terms.specs.declared.spec.Kind.TheVariants.{Operand}
 use Rattle.type_terms.specs.Keys.{Name}
-use Rattle.erl_tree.specs.declared.token.Place.{Place}
 use Rattle.erl_tree.specs.declared.token.Node.{Node}
 use Rattle.erl_tree.specs.declared.expr.BinaryOp.{BinaryOp}
 use Rattle.erl_tree.specs.declared.expr.ExprKind.{ExprKind}
@@ -17,14 +15,14 @@ use Rattle.cert_checker.specs.declared.refusal.FirstRefusal.{FirstRefusal}
 use Rattle.cert_checker.specs.declared.expression_type.ExpressionType.{ExpressionType}
 use Rattle.cert_checker.specs.declared.expression_type.ExpressionType.TheVariants.{Integers, OneInteger, OneAtom, Parameter}
 use Rattle.cert_checker.specs.declared.scope.Scope.{Scope}
-use Rattle.cert_checker.specs.Constraints.{Constraint, Context, Judged, JudgedAll, Holds, IsWithin, integers, is_arithmetic, operation, call, of_type, judge, judge_kind}
+use Rattle.cert_checker.specs.Constraints.{Constraint, Judged, JudgedAll, Holds, integers, is_arithmetic, operation, call, of_type, judge, judge_kind}
 use Rattle.cert_checker.specs.Failures.{ShowsFailure}
 use Rattle.cert_checker.specs.FlatTypes.{is_limited}
-use Rattle.cert_checker.specs.Judging.{Setting, context_of, JudgedBy, IsJudged, judge_arguments, AllJudgedBy, AreJudged, StandsFor, StandForAll, IsTypeIn, FailsIn, AreTypesIn, AllFailIn, owed_one, owed_operands, type_of_call, owed_call, IsCall}
+use Rattle.cert_checker.specs.Judging.{Setting, context_of, JudgedBy, IsJudged, judge_arguments, AllJudgedBy, AreJudged, StandsFor, StandForAll, IsTypeIn, FailsIn, AreTypesIn, AllFailIn, owed_operands, type_of_call, owed_call, IsCall}
 use Rattle.cert_checker.proofs.Lists.{some-inj, none-some, then-some, every-join}
 use Rattle.cert_checker.proofs.JudgeLaws.{judge_args, judge_kind-Int, judge_kind-Atom, judge_kind-Var, judge_kind-Paren, judge_kind-Binary, judge_kind-Call}
 use Rattle.cert_checker.proofs.Takes.{take-more, split-at}
-use Rattle.cert_checker.proofs.Arguments.{stand-append, stand-length}
+use Rattle.cert_checker.proofs.Arguments.{stand-append}
 use Rattle.cert_checker.proofs.Failing.{shows-within, shows-before, shows-after}
 
 module _ (scope : Scope) (s : Setting scope) where
@@ -261,8 +259,7 @@ module _ (scope : Scope) where
       let x = v s r.before r.before_is in
       let y = w s t.first t.first_is in
       let types_are : r.before.types ++ t.first.type ∷ [] ≡ js.types = ap (λ (k : JudgedAll). r.before.types ++ t.first.type ∷ k.types) none ∙ (ap (λ z. r.before.types ++ z) t.types_are ∙ r.types_are) in
-      let owed_is : r.before.owed ++ (t.first.owed ++ []) ≡ js.owed = ap (λ (k : JudgedAll). r.before.owed ++ (t.first.owed ++ k.owed)) none ∙ (ap (λ z. r.before.owed ++ z) t.owed_is ∙ r.owed_is) in
-      (
+      let owed_is : r.before.owed ++ (t.first.owed ++ []) ≡ js.owed = ap (λ (k : JudgedAll). r.before.owed ++ (t.first.owed ++ k.owed)) none ∙ (ap (λ z. r.before.owed ++ z) t.owed_is ∙ r.owed_is) in (
         subst (λ z. StandForAll scope z js.types) (sym n) (subst (λ z. StandForAll scope (types ++ found ∷ []) z) types_are (stand-append scope types r.before.types found t.first.type x.0 y.0)),
         subst (λ z. holds z) owed_is (every-join Holds r.before.owed _ x.1 (every-join Holds t.first.owed [] y.1 tt)),
       )

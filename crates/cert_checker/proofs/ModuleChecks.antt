@@ -1,18 +1,16 @@
 -- What is found of the functions of a flat module.
-use Rattle.std.proofs.Common.{◌≡◌, refl, sym, ◌∙◌, ap, subst, ℕ, ◌+◌, ◌<◌, List, [], ◌∷◌, ◌++◌, length}
-use Rattle.std.specs.Prelude.{Option, Some, None, true, slice_get}
+use Rattle.std.proofs.Common.{◌≡◌, refl, sym, ◌∙◌, ap, subst, ℕ, ◌+◌, List, [], ◌∷◌, ◌++◌, length}
+use Rattle.std.specs.Prelude.{Some, true, slice_get}
 use Rattle.std.specs.List.{Contains}
 use Rattle.std.proofs.lemmas.List.{append-nil}
 use Rattle.std.proofs.lemmas.Option.{slice_get_within}
 use Rattle.type_terms.specs.declared.spec.Arrow.{Arrow}
-use Rattle.type_terms.specs.Keys.{Name}
 use Rattle.type_terms.proofs.Contained.{contains-first}
 use Rattle.erl_tree.specs.declared.token.Node.{Node}
 use Rattle.erl_tree.specs.declared.expr.ExprKind.{ExprKind}
 use Rattle.erl_tree.specs.declared.expr.ClauseKind.{ClauseKind}
 use Rattle.erl_tree.specs.declared.form.Function.{Function}
 use Rattle.erl_tree.specs.declared.form.TreeForm.TheVariants as F
-use Rattle.erl_tree.specs.declared.form.SpecKind.{SpecKind}
 use Rattle.erl_tree.specs.declared.form.Module.{Module}
 use Rattle.erl_tree.specs.Lists.{Every, Among}
 use Rattle.erl_tree.specs.Functions.{functions_of, clauses_arity, of_function}
@@ -27,9 +25,9 @@ use Rattle.cert_checker.specs.declared.spec_table.FormTypes.TheVariants.{Spec}
 use Rattle.cert_checker.specs.declared.spec_table.SpecTable.{SpecTable}
 use Rattle.cert_checker.specs.Constraints.{Constraint, Test, FindsFits, Judged, Holds, owed_result, owed_for_arrows}
 use Rattle.cert_checker.specs.Failures.{ShowsFailure}
-use Rattle.cert_checker.specs.SpecTables.{HoldsSpecs, HaveTypes, IsFirstArrow, IsTypesOf, IsArrowAt, HasTypesOf}
+use Rattle.cert_checker.specs.SpecTables.{HoldsSpecs, HaveTypes, IsTypesOf, IsArrowAt, HasTypesOf}
 use Rattle.cert_checker.specs.Judging.{HoldsTypes, FunctionSetting, IsClauseOf, ClauseJudgedBy, AreJudgedClauses}
-use Rattle.cert_checker.proofs.Tables.{found-arrow, is-found, is-specified, own-arrow, arrow-length-of}
+use Rattle.cert_checker.proofs.Tables.{found-arrow, is-specified, own-arrow, arrow-length-of}
 use Rattle.cert_checker.proofs.Judged.{JudgedBody, body-judged, body-owes}
 use Rattle.cert_checker.proofs.ModuleForms.{body-flat}
 

@@ -1,6 +1,6 @@
 -- The specs and the bodies of a flat module: their types and expressions are those of a flat module.
-use Rattle.std.proofs.Common.{◌≡◌, refl, sym, ◌∙◌, ap, subst, inl, inr, ℕ, suc, List, [], ◌∷◌, ◌++◌, map, length}
-use Rattle.std.specs.Prelude.{Option, Some, None, slice_get}
+use Rattle.std.proofs.Common.{◌≡◌, refl, sym, ap, subst, inl, inr, suc, List, [], ◌∷◌, map, length}
+use Rattle.std.specs.Prelude.{Some}
 use Rattle.type_terms.specs.declared.term.Term.{Term}
 use Rattle.type_terms.specs.declared.spec.Arrow.{Arrow}
 use Rattle.type_terms.specs.declared.spec.FunSpec.{FunSpec}
@@ -8,7 +8,6 @@ use Rattle.type_terms.specs.Keys.{Name}
 use Rattle.erl_tree.specs.declared.token.Place.{Place}
 use Rattle.erl_tree.specs.declared.token.Placed.{Placed}
 use Rattle.erl_tree.specs.declared.token.Node.{Node}
-use Rattle.erl_tree.specs.declared.pattern.PatternKind.{PatternKind}
 use Rattle.erl_tree.specs.declared.type_expr.TypeKind.{TypeKind}
 use Rattle.erl_tree.specs.declared.expr.ExprKind.{ExprKind}
 use Rattle.erl_tree.specs.declared.expr.ExprKind.TheOpen as E
@@ -17,7 +16,6 @@ use Rattle.erl_tree.specs.declared.expr.ClauseKind.{ClauseKind, out-ClauseKind}
 use Rattle.erl_tree.specs.declared.expr.QualifierKind.{QualifierKind}
 use Rattle.erl_tree.specs.declared.expr.AssocKind.{AssocKind}
 use Rattle.erl_tree.specs.declared.expr.CatchKind.{CatchKind}
-use Rattle.erl_tree.specs.declared.form.SpecKind.{SpecKind}
 use Rattle.erl_tree.specs.declared.form.SpecClauseKind.{SpecClauseKind}
 use Rattle.erl_tree.specs.declared.form.Function.{Function}
 use Rattle.erl_tree.specs.declared.form.TreeForm.{TreeForm}
@@ -28,12 +26,12 @@ use Rattle.erl_tree.specs.Functions.{functions_in, functions_of}
 use Rattle.erl_tree.specs.Limits.{HasIntegersInLimit}
 use Rattle.erl_tree.specs.Specs.{and_then, all_present, type_term, clause_arrow, function_spec, specs_in, specs_of}
 use Rattle.erl_tree.specs.Spelling.{tokens_of, module_layer, forms_tokens, form_tokens, spec_layer, spec_clause_layer, spec_clause_tokens, function_tokens, clauses_tokens, clause_layer, clause_tokens, body_tokens, item_layer, item_tokens, pattern_tokens, type_tokens, expr_tokens}
-use Rattle.erl_tree.specs.Grammar.{IsType, IsExpr, IsForm, IsSpec, IsSpecClause, IsFunction, IsClause, IsItem, IsBody, IsWellFormed, AreParamMarks, is_module_layer, is_spec_layer, is_spec_clause_layer, is_function_layer, is_clause_layer, is_item_layer}
+use Rattle.erl_tree.specs.Grammar.{IsType, IsExpr, IsForm, IsFunction, IsClause, IsItem, IsBody, IsWellFormed, AreParamMarks, is_module_layer, is_spec_layer, is_spec_clause_layer, is_function_layer, is_clause_layer, is_item_layer}
 use Rattle.erl_tree.specs.Readable.{IsFlatModule}
 use Rattle.cert_checker.specs.FlatTypes.{IsFlatType, IsFlatExpr}
 use Rattle.cert_checker.specs.SpecTables.{IsFlatForm, IsFlatSpec, IsFlatSpecClause}
-use Rattle.cert_checker.proofs.Lists.{every-split, every-at, then-some, some-inj}
-use Rattle.cert_checker.proofs.Parts.{well_formed-forms, forms-functions, spec-clause, arrow-spec}
+use Rattle.cert_checker.proofs.Lists.{every-split, every-at, then-some}
+use Rattle.cert_checker.proofs.Parts.{well_formed-forms, forms-functions, arrow-spec}
 use Rattle.cert_checker.proofs.IntegerLimits.{InLimit, type-limited, expr-limited, params-split}
 
 abbrev AreInLimit : List Placed → Type 0
@@ -97,8 +95,7 @@ forms-flat : (forms : List TreeForm) (fs : List FunSpec) → Every IsForm forms 
 forms-flat [] fs w l e = tt
 forms-flat (F.Spec s ∷ forms) fs w l e =
     let f : (f : FunSpec) × (function_spec s ≡ Some f) × (and_then (all_present (map function_spec (specs_in forms))) (λ more. Some (f ∷ more)) ≡ Some fs) = then-some (function_spec s) _ fs e in
-    let r : (more : List FunSpec) × (all_present (map function_spec (specs_in forms)) ≡ Some more) × (Some (f.0 ∷ more) ≡ Some fs) = then-some (all_present (map function_spec (specs_in forms))) _ fs f.2 in
-    (
+    let r : (more : List FunSpec) × (all_present (map function_spec (specs_in forms)) ≡ Some more) × (Some (f.0 ∷ more) ≡ Some fs) = then-some (all_present (map function_spec (specs_in forms))) _ fs f.2 in (
       spec-flat s.kind.name s.kind.clauses s.place s.marks f.0 w.0 l.0 (λ c q. let a = arrow-spec s.kind.name c s.kind.clauses f.0 q f.1 in (a.0, a.1)),
       forms-flat forms r.0 w.1 l.1 r.1,
     )

@@ -12,7 +12,7 @@ use Rattle.erl_tree.specs.Specs.{specs_of}
 use Rattle.erl_tree.specs.Membership.{arrows_of}
 use Rattle.cert_checker.specs.declared.refusal.FirstRefusal.{FirstRefusal}
 use Rattle.cert_checker.specs.declared.refusal.FirstRefusal.TheVariants.{NoMemory, Failed}
-use Rattle.cert_checker.specs.Constraints.{Test, Constraint, Holds, owed_for_arrows, owed_by_functions, owed_of}
+use Rattle.cert_checker.specs.Constraints.{Test, Holds, owed_for_arrows, owed_by_functions, owed_of}
 use Rattle.cert_checker.specs.Failures.{IsFirstFailure, ShowsFailure}
 use Rattle.cert_checker.proofs.Lists.{every-join, none-some, some-inj}
 use Rattle.cert_checker.proofs.Takes.{take-more, split-at}

@@ -1,6 +1,6 @@
 -- The items of a loop over a list, and the list so far.
 use Rattle.std.proofs.Common.{◌≡◌, refl, sym, ◌∙◌, ap, subst, ℕ, zero, suc, ◌+◌, ◌<◌, List, [], ◌∷◌, ◌++◌, length, take, get_or, arith, add-one}
-use Rattle.std.specs.Prelude.{Option, Some, None, map, nat_eq, slice_get}
+use Rattle.std.specs.Prelude.{Option, Some, map, nat_eq, slice_get}
 use Rattle.std.proofs.lemmas.Bool.{eqb-true}
 use Rattle.std.specs.Prelude.{Bool, true, false}
 use Rattle.std.proofs.lemmas.Option.{slice_get_read}
@@ -71,8 +71,7 @@ present-more f [] x ys e =
 present-more f (w ∷ xs) x ys e =
     let p : (v : _) × (f w ≡ Some v) × (and_then (all_present (map f (xs ++ x ∷ []))) (λ more. Some (v ∷ more)) ≡ Some ys) = then-some (f w) _ ys e in
     let q : (more : List _) × (all_present (map f (xs ++ x ∷ [])) ≡ Some more) × (Some (p.0 ∷ more) ≡ Some ys) = then-some (all_present (map f (xs ++ x ∷ []))) _ ys p.2 in
-    let r : (zs : List _) × (y : _) × (all_present (map f xs) ≡ Some zs) × (f x ≡ Some y) × (q.0 ≡ zs ++ y ∷ []) = present-more f xs x q.0 q.1 in
-    (
+    let r : (zs : List _) × (y : _) × (all_present (map f xs) ≡ Some zs) × (f x ≡ Some y) × (q.0 ≡ zs ++ y ∷ []) = present-more f xs x q.0 q.1 in (
       p.0 ∷ r.0,
       r.1,
       ap (λ z. and_then z (λ v. and_then (all_present (map f xs)) (λ more. Some (v ∷ more)))) p.1 ∙ ap (λ z. and_then z (λ more. Some (p.0 ∷ more))) r.2,

@@ -1,6 +1,6 @@
 -- The sets of the types of a module's specs.
-use Rattle.std.proofs.Common.{◌≡◌, refl, sym, ◌∙◌, ap, subst, ℕ, zero, suc, ◌+◌, ◌<◌, List, [], ◌∷◌, ◌++◌, length, take, arith, length-append}
-use Rattle.std.specs.Prelude.{Option, Some, None, map, slice_get}
+use Rattle.std.proofs.Common.{◌≡◌, refl, sym, ◌∙◌, ap, subst, ℕ, ◌+◌, List, [], ◌∷◌, ◌++◌, length, take, arith, length-append}
+use Rattle.std.specs.Prelude.{Some, map, slice_get}
 use Rattle.type_terms.specs.declared.term.Term.{Term}
 use Rattle.type_terms.specs.declared.spec.Arrow.{Arrow}
 use Rattle.key_sets.specs.declared.key_set.KeySet.{KeySet}
@@ -48,8 +48,8 @@ pub types-more : (forms : List TreeForm) (i : ℕ) (form : TreeForm) (types new 
 types-more forms i form types new t e q h k = subst (HaveTypes forms (i + 1)) (sym q) (record {
   as_many = length-append types (t ∷ []) ∙ (let l : length types ≡ i = k.as_many in omega arith);
   each = λ j other l g. below-or-there j i l
-  (λ b. let r : (u : FormTypes) × (slice_get types j ≡ Some u) × IsTypesOf other u = k.each j other b g in (r.0, get-before types (t ∷ []) j r.0 r.1, r.2))
-  (λ b. (t, get-last types j t (k.as_many ∙ sym b), subst (λ z. IsTypesOf z t) (some-inj form other (sym e ∙ (ap (slice_get forms) (sym b) ∙ g))) h));
+      (λ b. let r : (u : FormTypes) × (slice_get types j ≡ Some u) × IsTypesOf other u = k.each j other b g in (r.0, get-before types (t ∷ []) j r.0 r.1, r.2))
+      (λ b. (t, get-last types j t (k.as_many ∙ sym b), subst (λ z. IsTypesOf z t) (some-inj form other (sym e ∙ (ap (slice_get forms) (sym b) ∙ g))) h));
 })
 
 pub no-types : (forms : List TreeForm) (types : List FormTypes) → types ≡ [] → HaveTypes forms 0 types

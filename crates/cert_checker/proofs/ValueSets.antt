@@ -1,5 +1,5 @@
 -- Tests of keys that say which values are in a type's term.
-use Rattle.std.proofs.Common.{◌≡◌, refl, sym, ◌∙◌, ap, subst, ℕ, ℤ, zero, suc, ◌<◌, List, [], ◌∷◌, ◌++◌, ◌↔◌, arith, get_or}
+use Rattle.std.proofs.Common.{◌≡◌, refl, sym, ◌∙◌, ap, subst, ℕ, ℤ, zero, suc, List, [], ◌∷◌, ◌++◌, ◌↔◌, arith}
 use Rattle.std.proofs.Math.Path.{transport}
 use Rattle.std.specs.Prelude.{Bool, true, false, ◌&&◌, ◌||◌, Option, Some, None, pos, negsuc, nat_le, codes, if◌then◌else◌}
 use Rattle.std.specs.Str.{bytes_eq}

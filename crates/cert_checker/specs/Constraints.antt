@@ -1,5 +1,5 @@
 -- What the functions of a module owe: that operands are integers, that calls are within the specs of the functions that are called, and that the type of each body is within the result of the function's spec. In its part on flat modules, in which the one clause of a function takes all arguments of its spec, so that nothing is owed of its head.
-use Rattle.std.specs.Prelude.{◌≡◌, ℕ, ◌+◌, List, [], ◌∷◌, ◌++◌, map, length, Bool, true, false, Option, Some, None, if◌then◌else◌}
+use Rattle.std.specs.Prelude.{◌≡◌, ℕ, ◌+◌, List, [], ◌∷◌, ◌++◌, length, Bool, true, false, Option, Some, None, if◌then◌else◌}
 use Rattle.std.specs.List.{list_any}
 use Rattle.type_terms.specs.declared.term.Term.{Term, Any, Ints, AtomLit, And, Fun}
 use Rattle.type_terms.specs.declared.spec.Arrow.{Arrow}

@@ -76,13 +76,7 @@ fn check_function(
     ensures fails { IfErr result (λ refusal. (fits : Test) → FindsFits fits → ShowsFailure (owed_for_arrows fits number (specs_of «module».now) function.now.clauses (arrows_of (specs_of «module».now) function.now.name (clauses_arity function.now.clauses))) (number + 1) refusal) }
 {
     match table.places.get(alloc, &function.name, function.arity())? {
-        Some(at) => check_clauses(
-            alloc,
-            table,
-            number,
-            &function.clauses,
-            table.types_at(at),
-        ),
+        Some(at) => check_clauses(alloc, table, number, &function.clauses, table.types_at(at)),
         None => unreachable!(),
     }
 }

@@ -48,9 +48,7 @@ impl ExpressionType {
                 one_integer(alloc, *number)?.first_outside(alloc, right)
             }
             ExpressionType::OneAtom(name) => one_atom(alloc, name)?.first_outside(alloc, right),
-            ExpressionType::Parameter(at) => {
-                parameter(scope, *at).first_outside(alloc, right)
-            }
+            ExpressionType::Parameter(at) => { parameter(scope, *at).first_outside(alloc, right) }
             ExpressionType::ResultAt(at) => result_at(scope, *at).first_outside(alloc, right),
         }
     }

@@ -23,11 +23,7 @@ pub fn set_of_type(alloc: Global, expression: &TypeExpr) -> Result<KeySet, NoMem
 }
 
 /// Adds the parts of which a type's set is the union.
-fn push_parts(
-    alloc: Global,
-    parts: &mut List<Part>,
-    expression: &TypeExpr,
-) -> Result<(), NoMemory>
+fn push_parts(alloc: Global, parts: &mut List<Part>, expression: &TypeExpr) -> Result<(), NoMemory>
     requires flat { IsFlatType expression.now }
     ensures { OnOk result ((t : Term) → type_term expression.now ≡ Some t → AddsPartsOf t parts.old parts.new) }
 {

@@ -13,22 +13,50 @@ fn place(column: u32) -> Place {
 }
 
 #[test]
-fn an_integer_is_one_of_all_integers(rt: HostRuntime) -> Result<(), Fail> {
+fn one_integer_is_an_integer(rt: HostRuntime) -> Result<(), Fail> {
     let alloc = rt.alloc();
-    let table = spec_table(alloc, &List::new(alloc)).ok();
-    if let Some(table) = &table {
-        let scope = Scope {
-            table,
-            number: 3,
-            patterns: &List::new(alloc),
-            params: &List::new(alloc),
-        };
-        let all = integers(alloc).ok();
-        if let Some(all) = &all {
-            let found = ExpressionType::OneInteger(7).first_outside(alloc, &scope, all);
-            assert!(rt; matches!(&found, Ok(None)));
-        }
-    }
-    assert!(rt; table.is_some());
+    let table = spec_table(alloc, &List::new(alloc)).ok().ok_or("a table")?;
+    let patterns = List::new(alloc);
+    let params = List::new(alloc);
+    let scope = Scope {
+        table: &table,
+        number: 3,
+        patterns: &patterns,
+        params: &params,
+    };
+    let all = integers(alloc).ok().ok_or("a set")?;
+    let seven = ExpressionType::OneInteger(7);
+    let checked = check_within(alloc, &scope, place(9), Kind::Result, &seven, &all);
+    assert!(rt; matches!(&checked, Ok(())));
+    Ok(())
+}
+
+#[test]
+fn an_atom_is_no_operand(rt: HostRuntime) -> Result<(), Fail> {
+    let alloc = rt.alloc();
+    let table = spec_table(alloc, &List::new(alloc)).ok().ok_or("a table")?;
+    let patterns = List::new(alloc);
+    let params = List::new(alloc);
+    let scope = Scope {
+        table: &table,
+        number: 3,
+        patterns: &patterns,
+        params: &params,
+    };
+    let one = ExpressionType::OneInteger(1);
+    let atom = ExpressionType::OneAtom(Text::from_slice(alloc, b"a".as_slice())?);
+    let refusal = check_operands(alloc, &scope, place(1), &one, place(5), &atom).err();
+    let shown = match &refusal {
+        Some(
+            FirstRefusal::Failed {
+                function: 3,
+                place: Place { line: 1, column: 5 },
+                kind: Kind::Operand,
+                shown: Shown::One(Key::Atom(name)),
+            },
+        ) => name.as_slice() == b"a".as_slice(),
+        _ => false,
+    };
+    assert!(rt; shown);
     Ok(())
 }

@@ -4,12 +4,12 @@ use mir.Syntax.{w128}
 use Rattle.std.proofs.lemmas.Int.{ints}
 use Rattle.std.proofs.lemmas.Result.{IfOk-weaker, IfErr-weaker, err_from_is_err_and}
 use Rattle.erl_tree.specs.declared.expr.ExprKind.{the_lemmas}
-use Rattle.cert_checker.specs.FlatTypes.{IsFlatExpr, is_limited}
+use Rattle.cert_checker.specs.FlatTypes.{IsFlatExpr}
 use Rattle.cert_checker.specs.declared.expression_type.ExpressionType.TheVariants.{OneInteger}
 use Rattle.cert_checker.specs.Judging.{IsTypeIn, AreTypesIn}
 use Rattle.cert_checker.proofs.Takes.{item-found, take-all, every-get}
 use Rattle.cert_checker.proofs.ExpressionForms.{flat-Int, flat-Paren, flat-Binary, flat-Call, expr-forms}
-use Rattle.cert_checker.proofs.Judgments.{int-typed, atom-typed, var-typed, var-judged, paren-judged, paren-typed, paren-fails, left-judged, right-judged, typed-stands, left-fails, right-fails, operands-fail, operation-typed, arguments-judged, arguments-fail, is-call, call-typed, call-fails, none-typed, argument-judged, argument-fails, arguments-more}
+use Rattle.cert_checker.proofs.Judgments.{int-typed, atom-typed, var-typed, var-judged, paren-judged, paren-typed, paren-fails, left-judged, right-judged, typed-stands, left-fails, right-fails, operands-fail, operation-typed, arguments-judged, arguments-fail, is-call, call-typed, call-fails, argument-judged, argument-fails, arguments-more}
 use Rattle.cert_checker.proofs.body_check.+check.Goals as goal
 
 -- ---- arguments

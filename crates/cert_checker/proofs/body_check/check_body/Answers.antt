@@ -1,9 +1,9 @@
-use Rattle.std.proofs.Common.{◌≡◌, sym, ◌∙◌, ap, subst}
+use Rattle.std.proofs.Common.{sym, ◌∙◌, ap, subst}
 use Rattle.erl_tree.specs.declared.expr.ItemKind.{out-ItemKind}
 use Rattle.erl_tree.specs.declared.expr.ItemKind.TheVariants.{outs-Value}
 use Rattle.cert_checker.specs.FlatTypes.{IsFlatExpr}
 use Rattle.cert_checker.specs.Judging.{IsJudged}
-use Rattle.cert_checker.proofs.FunctionBodies.{body-expression, no-body, no-match}
+use Rattle.cert_checker.proofs.FunctionBodies.{body-expression}
 use Rattle.cert_checker.proofs.body_check.check_body.Goals as goal
 
 pub check_result-requires-clause-flat : goal.check_result-requires-clause-flat

@@ -1,4 +1,4 @@
-use Rattle.std.proofs.Common.{◌≡◌, refl, ◌∙◌, ap, subst, length, ◌≤◌, List, take, arith}
+use Rattle.std.proofs.Common.{◌≡◌, refl, ap, subst, length, ◌≤◌, List, take, arith}
 use Rattle.std.proofs.lemmas.Result.{err_from_is_err_and}
 use Rattle.erl_tree.specs.declared.form.TreeForm.{TreeForm}
 use Rattle.erl_tree.specs.Lists.{Every}

@@ -1,5 +1,4 @@
-use Rattle.std.proofs.Common.{◌≡◌, refl, sym, ◌∙◌, ap, subst, length, ◌<◌, arith}
-use Rattle.std.specs.Prelude.{Some}
+use Rattle.std.proofs.Common.{◌≡◌, refl, ap, subst, length, ◌<◌, arith}
 use Rattle.cert_checker.specs.Failures.{IsCompared}
 use Rattle.cert_checker.proofs.Takes.{item-found}
 use Rattle.cert_checker.proofs.Arguments.{stands-at, within-none, within-more, within-end, keys-miss}

@@ -1,5 +1,4 @@
 use Rattle.std.proofs.Common.{◌≡◌, sym, ◌∙◌, ap, subst, length, arith, length-append, [], ◌∷◌}
-use Rattle.std.specs.Prelude.{Some, slice_get}
 use Rattle.cert_checker.specs.Judging.{StandForAll}
 use Rattle.cert_checker.proofs.Takes.{item-found, take-all}
 use Rattle.cert_checker.proofs.Arguments.{elements-more, no-elements, stands-at}

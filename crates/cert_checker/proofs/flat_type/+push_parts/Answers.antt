@@ -1,11 +1,10 @@
 use Rattle.std.proofs.Common.{◌≡◌, sym, ◌∙◌, ap, subst, arith, to_z, of_z, rules}
 use mir.Syntax.{w128}
-use Rattle.std.specs.Prelude.{ℤ, true, neg_ℤ, Some}
+use Rattle.std.specs.Prelude.{neg_ℤ}
 use Rattle.std.proofs.lemmas.Int.{ints}
 use Rattle.std.proofs.lemmas.Result.{on_ok_weaker}
-use Rattle.type_terms.specs.declared.term.Term.{Term, AtomLit}
 use Rattle.key_sets.specs.declared.part.Part.TheVariants.{Atom}
-use Rattle.erl_tree.specs.Specs.{one_integer, type_term}
+use Rattle.erl_tree.specs.Specs.{one_integer}
 use Rattle.erl_tree.specs.declared.type_expr.TypeKind.{the_lemmas}
 use Rattle.cert_checker.specs.FlatTypes.{IsPartOf, AddsPartsOf, is_limited}
 use Rattle.cert_checker.proofs.Lists.{some-inj}
@@ -75,8 +74,8 @@ pub returns-in_ok-push_parts-in-Or : goal.returns-in_ok-push_parts-in-Or
 returns-in_ok-push_parts-in-Or t c =
     on_ok_weaker c.push_parts-in-Or-2.result
     (λ h u e.
-        let p = Or-term c.args.expression.now c.in-Or.left c.in-Or.right u (sym c.get.ensures ∙ c.in-Or.is) e in
-        subst (λ z. AddsPartsOf z c.args.parts.now c.push_parts-in-Or-2.new.parts) p.4 (or-adds p.0 p.1 _ _ _ (c.in_ok-push_parts-in-Or.ensures p.0 p.2) (h p.1 p.3)))
+    let p = Or-term c.args.expression.now c.in-Or.left c.in-Or.right u (sym c.get.ensures ∙ c.in-Or.is) e in
+    subst (λ z. AddsPartsOf z c.args.parts.now c.push_parts-in-Or-2.new.parts) p.4 (or-adds p.0 p.1 _ _ _ (c.in_ok-push_parts-in-Or.ensures p.0 p.2) (h p.1 p.3)))
     c.push_parts-in-Or-2.ensures
 
 pub returns-in-Range : goal.returns-in-Range

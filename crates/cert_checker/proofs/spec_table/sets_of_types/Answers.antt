@@ -1,7 +1,7 @@
-use Rattle.std.proofs.Common.{◌≡◌, sym, ◌∙◌, ap, subst, length, arith}
+use Rattle.std.proofs.Common.{◌≡◌, ◌∙◌, ap, length, arith}
 use Rattle.std.specs.Prelude.{Some, slice_get, map}
 use Rattle.erl_tree.specs.Specs.{type_term, all_present}
-use Rattle.cert_checker.specs.FlatTypes.{AreSetsOf, IsFlatType}
+use Rattle.cert_checker.specs.FlatTypes.{IsFlatType}
 use Rattle.cert_checker.proofs.Lists.{some-inj}
 use Rattle.cert_checker.proofs.Takes.{item-found, take-all, every-get}
 use Rattle.cert_checker.proofs.TypeTables.{sets-more, no-sets}

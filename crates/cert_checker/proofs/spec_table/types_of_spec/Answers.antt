@@ -1,5 +1,5 @@
 use Rattle.std.proofs.lemmas.Result.{IfOk-weaker}
-use Rattle.cert_checker.proofs.TypeTables.{first-kind, spec-first}
+use Rattle.cert_checker.proofs.TypeTables.{first-kind}
 use Rattle.cert_checker.proofs.spec_table.types_of_spec.Goals as goal
 
 pub returns : goal.returns

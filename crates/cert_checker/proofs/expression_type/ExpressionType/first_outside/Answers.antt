@@ -1,4 +1,4 @@
-use Rattle.std.proofs.Common.{sym, ◌∙◌, subst, arith, to_z, of_z, ◌≡◌, ap}
+use Rattle.std.proofs.Common.{subst, arith, to_z, of_z, ◌≡◌}
 use mir.Syntax.{w128}
 use Rattle.std.proofs.lemmas.Int.{ints}
 use Rattle.std.proofs.lemmas.Result.{IfOk-weaker}
