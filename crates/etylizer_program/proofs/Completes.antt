@@ -1,5 +1,5 @@
 -- What the program answers of a text, unless the outside fails or memory runs out.
-use Rattle.std.proofs.Common.{◌≡◌, ◌≢◌, ◌∙◌, ◌⊎◌, ◌<◌, ◌≤◌, ℕ, suc, List, [], ◌∷◌, ◌++◌, length, codes, Option, Some, None, Result, Ok, Err, IfOk, IfErr, IsErrOf, IsOk, refl, ap, sym, subst, inl, inr, arith}
+use Rattle.std.proofs.Common.{◌≡◌, ◌≢◌, ◌∙◌, ◌⊎◌, ◌<◌, ◌≤◌, ℕ, zero, suc, List, [], ◌∷◌, ◌++◌, length, codes, Option, Some, None, Result, Ok, Err, IfOk, IfErr, IsErrOf, IsOk, refl, ap, sym, subst, inl, inr, arith}
 use Rattle.erl_tree.specs.Lists.{Every}
 use Rattle.erl_tree.specs.declared.form.Module.{Module}
 use Rattle.cert_checker.specs.Constraints.{Holds, Constraint, owed_of}
@@ -98,12 +98,12 @@ judged_text status words held before after text named judges =
 
 -- a status that is none of 2, 4 and 5 is that of a verdict, or want of memory
 few : {A : Type 0} (status : ℕ) → status ≤ 6 → (status ≡ 4 → ⊥) → (status ≡ 5 → ⊥) → (status ≡ 2 → ⊥) → (status < 4 → status ≢ 2 → A) → A ⊎ (status ≡ 6)
-few 0 small read write usage judged = inl (judged (omega arith) (λ e. absurd (omega arith)))
-few 1 small read write usage judged = inl (judged (omega arith) (λ e. absurd (omega arith)))
-few 2 small read write usage judged = absurd (usage refl)
-few 3 small read write usage judged = inl (judged (omega arith) (λ e. absurd (omega arith)))
-few 4 small read write usage judged = absurd (read refl)
-few 5 small read write usage judged = absurd (write refl)
+few zero small read write usage judged = inl (judged (omega arith) (λ e. absurd (omega arith)))
+few (suc zero) small read write usage judged = inl (judged (omega arith) (λ e. absurd (omega arith)))
+few (suc (suc zero)) small read write usage judged = absurd (usage refl)
+few (suc (suc (suc zero))) small read write usage judged = inl (judged (omega arith) (λ e. absurd (omega arith)))
+few (suc (suc (suc (suc zero)))) small read write usage judged = absurd (read refl)
+few (suc (suc (suc (suc (suc zero))))) small read write usage judged = absurd (write refl)
 few (suc (suc (suc (suc (suc (suc n)))))) small read write usage judged = inr (omega arith)
 
 -- a flat module whose constraints hold is accepted

@@ -1,18 +1,24 @@
 -- From what is said of a module to what is said of its text.
-use Rattle.std.proofs.Common.{◌≡◌, ◌∙◌, ◌<◌, ℕ, List, length, Result, Ok, Err, IfOk, sym}
+use Rattle.std.proofs.Common.{◌≡◌, ◌∙◌, ◌<◌, ℕ, List, length, Result, Ok, Err, IfOk, true, refl, subst, sym}
 use Rattle.type_terms.specs.Definitions.{given_definitions}
 use Rattle.type_terms.specs.declared.list.NoMemory.{NoMemory}
 use Rattle.erl_tree.specs.declared.form.Module.{Module}
-use Rattle.erl_tree.specs.Functions.{functions_in}
+use Rattle.erl_tree.specs.declared.token.Place.{Place}
+use Rattle.type_terms.specs.declared.spec.Kind.{Kind}
+use Rattle.erl_tree.specs.Functions.{functions_in, functions_of}
 use Rattle.erl_tree.specs.Specs.{specs_of, specs_in}
 use Rattle.erl_tree.specs.Readable.{IsFlatModule}
 use Rattle.erl_tree.specs.Safety.{IsSafe, IsSafeText}
-use Rattle.cert_checker.specs.Failures.{MeetsConstraints}
+use Rattle.cert_checker.specs.Failures.{MeetsConstraints, ShowsFirstFailure}
+use Rattle.cert_checker.specs.declared.refusal.FirstRefusal.{FirstRefusal}
+use Rattle.cert_checker.specs.declared.refusal.FirstRefusal.TheVariants as F
 use Rattle.etylizer_program.specs.declared.check.Accepted.{Accepted}
 use Rattle.etylizer_program.specs.declared.check.Refused.{Refused}
+use Rattle.etylizer_program.specs.declared.check.Refused.TheVariants as R
+use Rattle.cert_checker.specs.declared.refusal.Shown.{Shown}
 use Rattle.etylizer_program.specs.declared.report.Verdict.{Verdict}
 use Rattle.etylizer_program.specs.declared.report.Verdict.TheVariants as V
-use Rattle.etylizer_program.specs.Check.{text_limit, IsReadAs, IsAcceptedModule, IsAcceptedText, IsModuleVerdict, IsTextVerdict, IsRightVerdict}
+use Rattle.etylizer_program.specs.Check.{text_limit, IsReadAs, IsAcceptedModule, IsModuleRefusal, refused_as, IsAcceptedText, IsModuleVerdict, IsTextVerdict, IsTextRefusal, IsRightVerdict}
 use Rattle.etylizer_program.proofs.Flat.{clauses_counted_by_specs}
 
 -- the summary, counted by forms
@@ -52,3 +58,19 @@ pub right_verdict : (text : List ℕ) (m : Module) (result : Result Verdict NoMe
     → IfOk result (IsModuleVerdict m) → IfOk result (IsRightVerdict text)
 right_verdict text m (Ok verdict) read within is = record { right = text_verdict text m verdict read is; too_long = ((λ long. absurd (within long)), (λ e. absurd (not_too_long m verdict is e))) }
 right_verdict text m (Err e) read within is = is
+
+-- the constraint that a refusal shows is one of the module that was read
+pub shown_of_read : (text : List ℕ) (tree : Module) (number : ℕ) (place : Place) (kind : Kind) (shown : Shown) → IsReadAs text tree → IsTextRefusal text (R.Types (F.Failed number place kind shown)) → ShowsFirstFailure tree (F.Failed number place kind shown)
+shown_of_read text tree number place kind shown read is = subst (λ (m : Module). ShowsFirstFailure m (F.Failed number place kind shown)) (read.only is.0 is.1.spelled) is.2
+
+-- the function in which a constraint fails is one of the module
+pub function_counted : (m : Module) (number : ℕ) (place : Place) (kind : Kind) (shown : Shown) → ShowsFirstFailure m (F.Failed number place kind shown) → number < length (functions_of m)
+function_counted m number place kind shown shows = (shows (λ types parameters. true) (λ types parameters within. refl)).1
+
+-- the refusal of a module is right of it
+pub refusal_right : (m : Module) (refusal : FirstRefusal) (refused : Refused) → refused ≡ refused_as refusal → ShowsFirstFailure m refusal → IsModuleRefusal m refused
+refusal_right m refusal refused is shows = subst (λ (r : Refused). IsModuleRefusal m r) (sym is) (right refusal shows)
+  where
+    right : (refusal : FirstRefusal) → ShowsFirstFailure m refusal → IsModuleRefusal m (refused_as refusal)
+    right F.NoMemory shows = tt
+    right (F.Failed function place kind shown) shows = shows

@@ -95,6 +95,11 @@ IsModuleRefusal m TooLongText = ⊥
 IsModuleRefusal m NotBuiltText = ⊥
 IsModuleRefusal m (Types refusal) = IsFailure m refusal
 
+-- why a text is refused whose module is refused
+abbrev pub refused_as : FirstRefusal → Refused
+refused_as NoMemoryToCheck = NoMemoryForText
+refused_as (FailedConstraint function place kind shown) = Types (FailedConstraint function place kind shown)
+
 -- why a text may be refused
 abbrev pub IsTextRefusal : List ℕ → Refused → Type 0
 IsTextRefusal text NoMemoryForText = Unit {0}

@@ -1,6 +1,6 @@
 ghost use Rattle.std.specs.Prelude.{◌≡◌, ◌⊎◌, ◌<◌, ◌≤◌, ◌↔◌, length, IfOk, IfErr, IsOk, IsErrOf};
 ghost use Rattle.erl_tree.specs.Readable.{IsFlatModule};
-ghost use Rattle.etylizer_program.specs.Check.{text_limit, IsNotRead, IsRightText, IsReadAs, IsAcceptedModule, IsAcceptedText, IsModuleRefusal, IsTextRefusal};
+ghost use Rattle.etylizer_program.specs.Check.{text_limit, IsNotRead, IsRightText, IsReadAs, IsAcceptedModule, IsAcceptedText, IsModuleRefusal, IsTextRefusal, refused_as};
 
 use crate::count::{count_functions, count_specs};
 use cert_checker::{FirstRefusal, check_first};
@@ -56,6 +56,14 @@ pub fn check_text(alloc: Global, text: &[u8]) -> Result<Accepted, Refused>
     ensures complete { IsRightText text.now → length text.now ≤ text_limit → IsOk result ⊎ IsErrOf result Refused.NoMemory }
     ensures not_built { IsNotRead text.now → length text.now ≤ text_limit → IsErrOf result Refused.NotBuilt ⊎ IsErrOf result Refused.NoMemory }
 {
+    read_and_check(alloc, text)
+}
+
+fn read_and_check(alloc: Global, text: &[u8]) -> Result<Accepted, Refused>
+    ensures safe { IfOk result (λ a. IsAcceptedText text.now a.name a.functions a.clauses) }
+    ensures refused { IfErr result (IsTextRefusal text.now) }
+    ensures too_long { IsErrOf result Refused.TooLong ↔ (text_limit < length text.now) }
+{
     let tree = read_text(alloc, text)?;
     check_module(alloc, &tree)
 }
@@ -93,7 +101,26 @@ pub fn check_module(alloc: Global, tree: &Module) -> Result<Accepted, Refused>
                 clauses: count_specs(forms) as u64,
             })
         }
-        Err(FirstRefusal::NoMemory) => Err(Refused::NoMemory),
-        Err(failed) => Err(Refused::Types(failed)),
+        Err(refusal) => Err(refusal_of(refusal)),
+    }
+}
+
+/// Why a text is not accepted whose module is refused.
+fn refusal_of(refusal: FirstRefusal) -> Refused
+    ensures { result ≡ refused_as refusal }
+{
+    match refusal {
+        FirstRefusal::NoMemory => Refused::NoMemory,
+        FirstRefusal::Failed {
+            function,
+            place,
+            kind,
+            shown,
+        } => Refused::Types(FirstRefusal::Failed {
+            function,
+            place,
+            kind,
+            shown,
+        }),
     }
 }

@@ -1,4 +1,5 @@
 ghost use Rattle.std.specs.Prelude.{◌≡◌, ◌<◌, ◌≤◌, length, IfOk};
+ghost use Rattle.erl_tree.specs.Functions.{functions_of};
 ghost use Rattle.cert_checker.specs.Failures.{ShowsFirstFailure};
 ghost use Rattle.etylizer_program.specs.Check.{text_limit, IsModuleVerdict, IsRightVerdict, IsTextRefusal};
 
@@ -68,7 +69,8 @@ fn failed_verdict(
     kind: Kind,
     shown: Shown,
 ) -> Result<Verdict, NoMemory>
-    requires { ShowsFirstFailure tree.now (FirstRefusal.Failed number place kind shown) }
+    requires shown { ShowsFirstFailure tree.now (FirstRefusal.Failed number place kind shown) }
+    requires counted { number < length (functions_of tree.now) }
     ensures { IfOk result (IsModuleVerdict tree.now) }
 {
     let function = function_at(tree.forms.as_slice(), number).unwrap();

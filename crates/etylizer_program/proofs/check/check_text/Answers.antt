@@ -1,5 +1,8 @@
-use Rattle.etylizer_program.proofs.Verdicts.{accepted_text}
+use Rattle.etylizer_program.proofs.Completes.{right_is_accepted, unread_is_refused}
 use Rattle.etylizer_program.proofs.check.check_text.Goals as goal
 
-pub returns-clause-safe : goal.returns-clause-safe
-returns-clause-safe c = accepted_text c.args.text.now c.in_ok-tree.tree c.check_module.result c.in_ok-tree.ensures.read c.check_module.ensures.accepted
+pub returns-clause-complete : goal.returns-clause-complete
+returns-clause-complete c = λ right short. right_is_accepted c.args.text.now c.read_and_check.result c.read_and_check.ensures.refused right short
+
+pub returns-clause-not_built : goal.returns-clause-not_built
+returns-clause-not_built c = λ not_read short. unread_is_refused c.args.text.now c.read_and_check.result c.read_and_check.ensures.safe c.read_and_check.ensures.refused not_read short
