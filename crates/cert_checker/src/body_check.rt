@@ -85,8 +85,14 @@ fn check_result(
     ensures fails { IfErr result (λ refusal. (s : Setting scope.now) (j : Judged) (t : Term) → JudgedBy scope.now s expression.now j → IsSetOf result_type.now t → ShowsFailure (owed_in scope.now s expression.now j t) (scope.now.number + 1) refusal) }
 {
     let found = check_expression(alloc, scope, expression)?;
-    let place = expression.place;
-    check_within(alloc, scope, place, Kind::Result, &found, result_type)
+    check_within(
+        alloc,
+        scope,
+        expression.place,
+        Kind::Result,
+        &found,
+        result_type,
+    )
 }
 
 /// The type of an expression that meets what it owes: its parts from left to right, and then itself.
