@@ -38,7 +38,7 @@ below n h = go (nat_le n integer_limit) refl
 
 pub token-limited : (n : ℤ) → IsInLimit (T.Int n) → is_limited n ≡ true
 token-limited (pos n) h = below n h
-token-limited (negsuc n) h = below (suc n) h
+token-limited (negsuc n) h = absurd (h tt)
 
 -- ---- types
 

@@ -24,7 +24,7 @@ use Rattle.erl_tree.specs.Spelling.{tokens_of}
 use Rattle.erl_tree.specs.Limits.{integer_limit, IsInLimit, HasIntegersInLimit, IsShallow, IsShallowType, type_depth, expr_depth}
 use Rattle.erl_tree.specs.Grammar.{IsType, one_type, use_type, atom_type, IsExpr, one_product, sum, IsOperand, one_operand, integer, atom, variable, call, last_argument, IsWellFormed}
 use Rattle.erl_tree.specs.Specs.{type_term, and_then, all_present, clause_arrow, arrows_arity, function_spec, read_specs, specs_of, spec_id}
-use Rattle.erl_tree.specs.Readable.{used_in, called_in, IsReadable, IsFlatModule}
+use Rattle.erl_tree.specs.Readable.{built_ins, used_in, called_in, IsReadable, IsFlatModule}
 use Rattle.erl_tree.specs.Functions.{FunctionId, of_function, function_ids, functions_of}
 use Rattle.erl_tree.proofs.TreeLaws.{used_laws, called_laws, expr_depth_laws, expr_tokens_laws, type_tokens_laws, type_depth_laws, type_term_laws}
 use Rattle.cert_checker.specs.Examples as X
@@ -54,7 +54,7 @@ append-none P xs h = every-join P xs [] h tt
 
 below_limit : Token → Bool
 below_limit (T.Int (pos n)) = nat_le n integer_limit
-below_limit (T.Int (negsuc n)) = nat_lt n integer_limit
+below_limit (T.Int (negsuc n)) = false
 below_limit _ = true
 
 all_below : List Placed → Bool
@@ -64,13 +64,10 @@ all_below (t ∷ ts) = below_limit t.token && all_below ts
 not-above : (n l : ℕ) → nat_le n l ≡ true → l < n → ⊥
 not-above n l e h = grind arith
 
-not-above_negative : (n l : ℕ) → nat_lt n l ≡ true → l < suc n → ⊥
-not-above_negative n l e h = grind arith
-
 token-in_limit : (t : Token) → below_limit t ≡ true → IsInLimit t
 unfolding below_limit
 token-in_limit (T.Int (pos n)) e h = not-above n integer_limit e h
-token-in_limit (T.Int (negsuc n)) e h = not-above_negative n integer_limit e h
+token-in_limit (T.Int (negsuc n)) e h = cc
 token-in_limit _ e h = h
 
 tokens-in_limit : (ts : List Placed) → all_below ts ≡ true → Every (λ t. IsInLimit t.token) ts
@@ -105,6 +102,16 @@ spec-read name line close type t e =
 shallow : (type : Node TypeKind) → type_depth type ≡ 1 → IsShallowType type
 shallow type e = omega (arith, e)
 
+among-left : (id : FunctionId) (ids others : List FunctionId) → Among id ids → Among id (ids ++ others)
+among-left id (i ∷ ids) others (inl e) = inl e
+among-left id (i ∷ ids) others (inr a) = inr (among-left id ids others a)
+among-left id [] others a = absurd a
+
+-- calls of some functions are calls of these or others
+wider : (ids others called : List FunctionId) → Every (λ id. Among id ids) called → Every (λ id. Among id (ids ++ others)) called
+wider ids others [] h = tt
+wider ids others (id ∷ called) h = (among-left id ids others h.0, wider ids others called h.1)
+
 -- ---- modules of one function
 
 module _ (dot : ℕ) (e : Node ExprKind) where
@@ -130,7 +137,7 @@ module _ (dot : ℕ) (e : Node ExprKind) where
       specified = subst (λ (z : List FunSpec). Every (λ id. Among id (map spec_id z)) (function_ids (small_module dot e))) (sym specs-are) (inl refl, tt);
       defined = subst (λ (z : List FunSpec). Every (λ id. Among id (function_ids (small_module dot e))) (map spec_id z)) (sym specs-are) (inl refl, tt);
       scoped = ((append-none (λ x. Among x (codes "X" ∷ [])) (used_in e.kind) used, tt), tt);
-      calls_defined = (((called, tt), tt), tt);
+      calls_defined = (((wider (of_function (codes "f") 1 ∷ []) built_ins (called_in e.kind) called, tt), tt), tt);
     }
 
     small-shallow : IsShallow (small_module dot e)
@@ -139,7 +146,7 @@ module _ (dot : ℕ) (e : Node ExprKind) where
 
     pub small-flat : IsFlatModule (small_module dot e)
     unfolding Rattle.erl_tree.specs.declared.type_expr.TypeKind.TheViews.out-TypeKind denote.Hole.Carrier.out Rattle.erl_tree.specs.declared.pattern.PatternKind.TheViews.out-PatternKind Rattle.erl_tree.specs.declared.expr.ExprKind.TheViews.out-ItemKind Rattle.erl_tree.specs.declared.expr.ExprKind.TheBlock.shown-the_row-ExprKind-0 denote.Hole.Carrier.shown denote.Hole.Carrier.hidden
-    small-flat = record { well_formed = small-formed; readable = small-readable; distinct_heads = ((((λ x. x), tt), tt), tt); shallow = small-shallow; in_limit = limit }
+    small-flat = record { well_formed = small-formed; readable = small-readable; distinct_heads = ((((λ x. x), tt), tt), tt); own_calls = (((called, tt), tt), tt); shallow = small-shallow; in_limit = limit }
 
 -- an expression of one token
 leaf-flat : (e : ExprKind) → IsExpr (leaf 3 9 e) → Every (λ x. Among x (codes "X" ∷ [])) (used_in e) → Every (λ id. Among id (of_function (codes "f") 1 ∷ [])) (called_in e) → expr_depth (leaf 3 9 e) ≡ 1 → HasIntegersInLimit (small_module 10 (leaf 3 9 e)) → IsFlatModule (small_module 10 (leaf 3 9 e))
@@ -313,6 +320,9 @@ second-formed = (
   ),
 )
 
+two-own : Every (λ id. Among id both_ids) (called_in two_calls.kind)
+two-own = subst (λ z. Every (λ id. Among id both_ids) z) (sym two-called) (inl refl, (inl refl, tt))
+
 second-readable : IsReadable second_call_wrong
 unfolding Rattle.erl_tree.specs.declared.type_expr.TypeKind.TheViews.out-TypeKind denote.Hole.Carrier.out Rattle.erl_tree.specs.declared.pattern.PatternKind.TheViews.out-PatternKind Rattle.erl_tree.specs.declared.expr.ExprKind.TheViews.out-ItemKind Rattle.erl_tree.specs.declared.expr.ExprKind.TheBlock.shown-the_row-ExprKind-0 denote.Hole.Carrier.shown denote.Hole.Carrier.hidden
 second-readable = record {
@@ -323,7 +333,7 @@ second-readable = record {
   specified = subst (λ (z : List FunSpec). Every (λ id. Among id (map spec_id z)) (function_ids second_call_wrong)) (sym both-are) both-among;
   defined = subst (λ (z : List FunSpec). Every (λ id. Among id (function_ids second_call_wrong)) (map spec_id z)) (sym both-are) both-among;
   scoped = ((simp used_laws (inl refl, tt), tt), ((simp used_laws (inl refl, tt), tt), tt));
-  calls_defined = (((simp called_laws tt, tt), tt), (((subst (λ z. Every (λ id. Among id both_ids) z) (sym two-called) (inl refl, (inl refl, tt)), tt), tt), tt));
+  calls_defined = (((simp called_laws tt, tt), tt), (((wider both_ids built_ins (called_in two_calls.kind) two-own, tt), tt), tt));
 }
 
 second-shallow : IsShallow second_call_wrong
@@ -341,7 +351,7 @@ second-shallow = (
 
 pub second-flat : IsFlatModule second_call_wrong
 unfolding Rattle.erl_tree.specs.declared.type_expr.TypeKind.TheViews.out-TypeKind denote.Hole.Carrier.out Rattle.erl_tree.specs.declared.pattern.PatternKind.TheViews.out-PatternKind Rattle.erl_tree.specs.declared.expr.ExprKind.TheViews.out-ItemKind Rattle.erl_tree.specs.declared.expr.ExprKind.TheBlock.shown-the_row-ExprKind-0 denote.Hole.Carrier.shown denote.Hole.Carrier.hidden
-second-flat = record { well_formed = second-formed; readable = second-readable; distinct_heads = ((((λ x. x), tt), tt), ((((λ x. x), tt), tt), tt)); shallow = second-shallow; in_limit = limit-second }
+second-flat = record { well_formed = second-formed; readable = second-readable; distinct_heads = ((((λ x. x), tt), tt), ((((λ x. x), tt), tt), tt)); own_calls = (((simp called_laws tt, tt), tt), (((two-own, tt), tt), tt)); shallow = second-shallow; in_limit = limit-second }
 
 pub second-wrong : (apply (code_of second_call_wrong []) (V.named_fun (codes "g") 1) (V.atom (codes "a") ∷ []) 3).outcome ≡ V.wrong
 unfolding apply_within Running.then Rattle.erl_tree.specs.declared.type_expr.TypeKind.TheViews.out-TypeKind denote.Hole.Carrier.out Rattle.erl_tree.specs.declared.pattern.PatternKind.TheViews.out-PatternKind Rattle.erl_tree.specs.declared.expr.ExprKind.TheViews.out-ItemKind Rattle.erl_tree.specs.declared.expr.ExprKind.TheBlock.shown-the_row-ExprKind-0 denote.Hole.Carrier.shown denote.Hole.Carrier.hidden

@@ -1,4 +1,4 @@
--- What the functions of a module owe: that operands are integers, that calls are within the specs of the functions that are called, and that the type of each body is within the result of the function's spec. In its part on flat modules.
+-- What the functions of a module owe: that operands are integers, that calls are within the specs of the functions that are called, and that the type of each body is within the result of the function's spec. In its part on flat modules, in which the one clause of a function takes all arguments of its spec, so that nothing is owed of its head.
 use Rattle.std.specs.Prelude.{◌≡◌, ℕ, ◌+◌, List, [], ◌∷◌, ◌++◌, length, Bool, true, false, Option, Some, None, if◌then◌else◌}
 use Rattle.std.specs.List.{list_any}
 use Rattle.type_terms.specs.declared.term.Term.{Term, Any, Ints, AtomLit, And, Fun}
@@ -59,7 +59,7 @@ AreWithin _ _ = ⊥
 abbrev pub Test : Type 0
 Test = List Term → List Term → Bool
 
--- It says yes wherever they fit. What is claimed of the constraints holds for each such test, and the exact one is among them: what a call's type is where its arguments don't fit makes no difference, since the call's own constraint fails before any that depends on it.
+-- It says yes wherever they fit. What is claimed of the constraints holds for each such test, and the exact one is among them: what a call's type is where its arguments don't fit makes no difference to whether all constraints hold and to which one fails first, since the call's own constraint fails before any that depends on it.
 abbrev pub FindsFits : Test → Type 0
 FindsFits fits = (types parameters : List Term) → AreWithin types parameters → fits types parameters ≡ true
 

@@ -32,7 +32,7 @@ keys_in [] [] defs inst = Unit {0}
 keys_in (k ∷ ks) (t ∷ ts) defs inst = read (key_layer k) no_tag t defs inst × keys_in ks ts defs inst
 keys_in _ _ defs inst = ⊥
 
--- What is shown: a key, or the fun that fails for these arguments and says nothing of others. A fun gives results of a type for arguments of some types where it doesn't fail for any of them.
+-- What is shown: a key, or the fun that fails for these arguments and says nothing of others. It is in a fun type where these arguments aren't all in the type's parameters.
 abbrev pub shown_layer : Shown → Layer
 shown_layer (One key) = key_layer key
 shown_layer (Missing keys) = fun_layer (length keys) (λ parameters result defs inst. keys_in keys parameters defs inst → ⊥)
@@ -71,10 +71,10 @@ abbrev pub ShowsFailure : List Constraint → (count : ℕ) → FirstRefusal →
 ShowsFailure owed count NoMemory = Unit {0}
 ShowsFailure owed count (Failed function place kind shown) = IsFirstFailure owed function place kind shown × (function < count)
 
--- what a refusal says of a module: the first constraint that fails, whichever test of arguments is taken
+-- what a refusal says of a module: the first constraint that fails, with each test of arguments that finds what fits
 abbrev pub ShowsFirstFailure : Module → FirstRefusal → Type 0
 ShowsFirstFailure m refusal = (fits : Test) → FindsFits fits → ShowsFailure (owed_of fits m) (length (functions_of m)) refusal
 
--- every constraint of a module holds, whichever test of arguments is taken
+-- every constraint of a module holds, with each test of arguments that finds what fits
 abbrev pub MeetsConstraints : Module → Type 0
 MeetsConstraints m = (fits : Test) → FindsFits fits → Every Holds (owed_of fits m)

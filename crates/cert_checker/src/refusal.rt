@@ -10,7 +10,7 @@ use type_terms::{Key, Kind, List, NoMemory};
 pub enum Shown {
     /// An integer or an atom.
     One(Key),
-    /// A function that fails for these arguments.
+    /// A fun that fails for these arguments.
     Missing(List<Key>),
 }
 
@@ -23,7 +23,8 @@ pub enum FirstRefusal {
     Failed {
         /// The number of the function, from 0, in text order.
         function: usize,
-        /// The first token of the expression whose type is the left side.
+        /// The first token of the expression whose type is the left side; where a call is not within
+        /// the callee's spec, the first token of the call.
         place: Place,
         kind: Kind,
         shown: Shown,

@@ -3,7 +3,7 @@ use Rattle.std.proofs.Common.{◌≡◌, ◌≢◌, ℕ, zero, suc, ◌+◌, ◌
 use Rattle.std.proofs.lemmas.List.{length-drop, take_all}
 use Rattle.erl_tree.specs.declared.token.Token.{Token}
 use Rattle.erl_tree.specs.Lexis.{is_lower, is_upper, is_digit, mark_token}
-use Rattle.erl_lexer.specs.Plain.{IsAboveLimit}
+use Rattle.erl_tree.specs.Limits.{IsAboveLimit}
 use Rattle.erl_lexer.specs.Scan.{run, integer_token, mark_length, long, next_mark, next}
 use Rattle.erl_lexer.proofs.Tokens.{next_digit, next_other, long_is}
 

@@ -2,7 +2,7 @@
 use Rattle.std.proofs.Common.{List, [], ◌∷◌, ◌++◌}
 use Rattle.erl_tree.specs.declared.token.Placed.{Placed}
 use Rattle.erl_tree.specs.Lists.{Every}
-use Rattle.erl_lexer.specs.Plain.{IsInLimit}
+use Rattle.erl_tree.specs.Limits.{IsInLimit}
 
 pub every_push : (tokens : List Placed) (t : Placed) → Every (λ u. IsInLimit u.token) tokens → IsInLimit t.token → Every (λ u. IsInLimit u.token) (tokens ++ t ∷ [])
 every_push [] t h l = (l, tt)

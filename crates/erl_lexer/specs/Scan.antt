@@ -5,7 +5,7 @@ use Rattle.erl_tree.specs.declared.token.Token.TheVariants.{Var, Int}
 use Rattle.erl_tree.specs.Lexis.{is_lower, is_upper, is_digit, is_digit_of, is_name, is_white, is_mark, decimal, name_token, mark_token, when}
 use Rattle.erl_lexer.specs.declared.PlainFault.{PlainFault}
 use Rattle.erl_lexer.specs.declared.PlainFault.TheVariants.{NoMemory, NotPlain}
-use Rattle.erl_lexer.specs.Plain.{IsAboveLimit}
+use Rattle.erl_tree.specs.Limits.{IsAboveLimit}
 
 -- how many characters at the front are so
 abbrev pub run : (ℕ → Bool) → List ℕ → ℕ

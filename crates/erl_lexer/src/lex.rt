@@ -5,7 +5,8 @@ ghost use Rattle.std.specs.Prelude.{List as Listed};
 ghost use Rattle.erl_tree.specs.Lexis.{SpellsTokens, after};
 ghost use Rattle.erl_tree.specs.declared.token.Placed.{Placed as Entry};
 ghost use Rattle.erl_tree.specs.Lists.{Every};
-ghost use Rattle.erl_lexer.specs.Plain.{Gives, IsInLimit};
+ghost use Rattle.erl_tree.specs.Limits.{IsInLimit};
+ghost use Rattle.erl_lexer.specs.Plain.{Gives};
 
 use crate::PlainFault;
 use crate::scan::gap_length;

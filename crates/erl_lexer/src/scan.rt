@@ -2,7 +2,7 @@
 
 ghost use Rattle.std.specs.Prelude.{◌≡◌, ◌≤◌, ◌<◌, ◌+◌, ℕ, ℤ, pos, false, length, take, MatchOption};
 ghost use Rattle.erl_tree.specs.Lexis as lexis;
-ghost use Rattle.erl_lexer.specs.Plain.{integer_limit};
+ghost use Rattle.erl_tree.specs.Limits.{integer_limit};
 ghost use Rattle.erl_lexer.specs.Scan as scan;
 ghost use Rattle.erl_lexer.specs.Scan.{run, gap_run};
 

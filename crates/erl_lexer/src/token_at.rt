@@ -3,7 +3,7 @@
 ghost use Rattle.std.specs.Prelude.{◌≡◌, ◌≤◌, ◌+◌, ℕ, length, [], ◌∷◌, Some, IfOk, IfSome, MatchOption};
 ghost use Rattle.erl_tree.specs.Lexis as lexis;
 ghost use Rattle.erl_tree.specs.declared.token.Token.{Token as Spelled};
-ghost use Rattle.erl_lexer.specs.Plain.{IsAboveLimit, IsInLimit};
+ghost use Rattle.erl_tree.specs.Limits.{IsAboveLimit, IsInLimit};
 ghost use Rattle.erl_lexer.specs.Scan as scan;
 ghost use Rattle.erl_lexer.specs.Scan.{Finds};
 

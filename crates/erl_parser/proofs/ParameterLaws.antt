@@ -1,14 +1,15 @@
 -- Lists of parameters, for any reader of one parameter.
-use Rattle.std.proofs.Common.{◌≡◌, ℕ, zero, suc, ◌≤◌, List, [], ◌∷◌, ◌++◌, map, length, Some, None, refl, ap, sym, subst, ◌∙◌, inl, inr, le-leb, leb-true, arith}
+use Rattle.std.proofs.Common.{◌≡◌, ℕ, zero, suc, ◌≤◌, List, [], ◌∷◌, ◌++◌, map, length, Some, refl, ap, sym, subst, ◌∙◌, inl, inr, le-leb, leb-true, arith}
 use Rattle.std.specs.Prelude.{codes, nat_le}
 use Rattle.std.proofs.lemmas.List.{length-append}
 use Rattle.erl_tree.specs.Lists.{Every}
 use Rattle.erl_tree.specs.declared.token.Place.{Place}
 use Rattle.erl_tree.specs.declared.token.Placed.{Placed}
-use Rattle.erl_tree.specs.Spelling.{mark, params_tokens, IsArity, AreParamMarks}
-use Rattle.erl_parser.specs.Reading.{in_case, Reads, Listed, listing, before, read_mark, read_closing, closed, read_items, within_arity, read_params}
+use Rattle.erl_tree.specs.Spelling.{mark, params_tokens}
+use Rattle.erl_tree.specs.Grammar.{IsArity, AreParamMarks}
+use Rattle.erl_parser.specs.Reading.{Reads, Listed, listing, before, closed, read_mark, read_items, read_list, read_closing, within_arity, read_params}
 use Rattle.erl_parser.proofs.TokenLaws.{bind_some, case_some, if_some, some_is, pair_is, read_mark-again, read_mark-takes}
-use Rattle.erl_parser.proofs.PartLaws.{NoOpen, Again, Takes}
+use Rattle.erl_parser.proofs.PartLaws.{No, Again, NoClose, AreEnds, Takes}
 
 -- ---- what is well formed is read again
 
@@ -16,33 +17,25 @@ closing_again : (c a : Place) (rest : List Placed) → read_closing (mark (codes
 unfolding read_closing
 closing_again c a rest = rw (read_mark-again (codes ")") c (mark (codes "->") a ∷ rest), read_mark-again (codes "->") a rest) refl
 
-no_comma : (c : Place) (ts : List Placed) → read_mark (codes ",") (mark (codes ")") c ∷ ts) ≡ None
+no_comma : (c : Place) (ts : List Placed) → No (codes ",") (mark (codes ")") c ∷ ts)
 unfolding read_mark
 no_comma c ts = refl
 
-comma_no_open : (c : Place) (ts : List Placed) → NoOpen (mark (codes ",") c ∷ ts)
-unfolding read_mark
-comma_no_open c ts = refl
-
-close_no_open : (c : Place) (ts : List Placed) → NoOpen (mark (codes ")") c ∷ ts)
-unfolding read_mark
-close_no_open c ts = refl
-
-module _ {A : Type 0} (Is : A → Type 0) (tokens : A → List Placed) (inner : Reads A) where
-  items_again : Again Is tokens inner → (k : ℕ) (x : A) (xs : List A) (ms : List Place) (rest : List Placed) → Every Is (x ∷ xs) → AreParamMarks (length (x ∷ xs)) ms → length (x ∷ xs) ≤ k
-      → read_items inner k (params_tokens (map tokens (x ∷ xs)) ms rest) ≡ Some (listing (x ∷ xs) ms rest)
+module _ {A : Type 0} (Is : A → Type 0) (Ends : List Placed → Type 0) (tokens : A → List Placed) (inner : Reads A) where
+  items_again : AreEnds Ends → Again Is Ends tokens inner → (k : ℕ) (x : A) (xs : List A) (ms : List Place) (rest : List Placed) → Every Is (x ∷ xs) → AreParamMarks (length (x ∷ xs)) ms → length (x ∷ xs) ≤ k
+      → read_items inner read_closing k (params_tokens (map tokens (x ∷ xs)) ms rest) ≡ Some (listing (x ∷ xs) ms rest)
   unfolding read_items
-  items_again again zero x xs ms rest h m l = absurd (omega arith)
-  items_again again (suc k) x [] [] rest h m l = absurd m
-  items_again again (suc k) x [] (c ∷ []) rest h m l = absurd m
-  items_again again (suc k) x [] (c ∷ a ∷ []) rest h m l =
-      let ends : List Placed = mark (codes ")") c ∷ mark (codes "->") a ∷ rest in
-      rw ((again x ends h.0 (close_no_open c (mark (codes "->") a ∷ rest))).0, no_comma c (mark (codes "->") a ∷ rest), closing_again c a rest) refl
-  items_again again (suc k) x [] (c ∷ a ∷ b ∷ ms) rest h m l = absurd m
-  items_again again (suc k) x (y ∷ xs) [] rest h m l = absurd m
-  items_again again (suc k) x (y ∷ xs) (c ∷ ms) rest h m l =
+  items_again ends again zero x xs ms rest h m l = absurd (omega arith)
+  items_again ends again (suc k) x [] [] rest h m l = absurd m
+  items_again ends again (suc k) x [] (c ∷ []) rest h m l = absurd m
+  items_again ends again (suc k) x [] (c ∷ a ∷ []) rest h m l =
+      let last : List Placed = mark (codes ")") c ∷ mark (codes "->") a ∷ rest in
+      rw (again x last h.0 (ends.close c (mark (codes "->") a ∷ rest)), no_comma c (mark (codes "->") a ∷ rest), closing_again c a rest) refl
+  items_again ends again (suc k) x [] (c ∷ a ∷ b ∷ ms) rest h m l = absurd m
+  items_again ends again (suc k) x (y ∷ xs) [] rest h m l = absurd m
+  items_again ends again (suc k) x (y ∷ xs) (c ∷ ms) rest h m l =
       let more : List Placed = params_tokens (map tokens (y ∷ xs)) ms rest in
-      rw ((again x (mark (codes ",") c ∷ more) h.0 (comma_no_open c more)).0, read_mark-again (codes ",") c more, items_again again k y xs ms rest h.1 m (omega arith)) refl
+      rw (again x (mark (codes ",") c ∷ more) h.0 (ends.comma c more), read_mark-again (codes ",") c more, items_again ends again k y xs ms rest h.1 m (omega arith)) refl
 
   tokens_long : (xs : List A) (ms : List Place) (rest : List Placed) → AreParamMarks (length xs) ms → length xs ≤ length (params_tokens (map tokens xs) ms rest)
   tokens_long [] ms rest m = omega arith
@@ -55,28 +48,28 @@ module _ {A : Type 0} (Is : A → Type 0) (tokens : A → List Placed) (inner : 
       omega (arith, tokens_long (y ∷ xs) ms rest m, length-append (tokens x) (mark (codes ",") c ∷ params_tokens (map tokens (y ∷ xs)) ms rest))
 
   -- the first token of parameters is no closing parenthesis
-  no_close : Again Is tokens inner → (x : A) (xs : List A) (ms : List Place) (rest : List Placed) → Every Is (x ∷ xs) → AreParamMarks (length (x ∷ xs)) ms → read_mark (codes ")") (params_tokens (map tokens (x ∷ xs)) ms rest) ≡ None
-  no_close again x [] [] rest h m = absurd m
-  no_close again x [] (c ∷ []) rest h m = absurd m
-  no_close again x [] (c ∷ a ∷ []) rest h m = (again x (mark (codes ")") c ∷ mark (codes "->") a ∷ rest) h.0 (close_no_open c (mark (codes "->") a ∷ rest))).1
-  no_close again x [] (c ∷ a ∷ b ∷ ms) rest h m = absurd m
-  no_close again x (y ∷ xs) [] rest h m = absurd m
-  no_close again x (y ∷ xs) (c ∷ ms) rest h m = let more : List Placed = params_tokens (map tokens (y ∷ xs)) ms rest in (again x (mark (codes ",") c ∷ more) h.0 (comma_no_open c more)).1
+  no_close : NoClose Is tokens → (x : A) (xs : List A) (ms : List Place) (rest : List Placed) → Every Is (x ∷ xs) → AreParamMarks (length (x ∷ xs)) ms → No (codes ")") (params_tokens (map tokens (x ∷ xs)) ms rest)
+  no_close opens x [] [] rest h m = absurd m
+  no_close opens x [] (c ∷ []) rest h m = absurd m
+  no_close opens x [] (c ∷ a ∷ []) rest h m = opens x (mark (codes ")") c ∷ mark (codes "->") a ∷ rest) h.0
+  no_close opens x [] (c ∷ a ∷ b ∷ ms) rest h m = absurd m
+  no_close opens x (y ∷ xs) [] rest h m = absurd m
+  no_close opens x (y ∷ xs) (c ∷ ms) rest h m = opens x (mark (codes ",") c ∷ params_tokens (map tokens (y ∷ xs)) ms rest) h.0
 
   within : (l : Listed A) → IsArity (length l.items) → within_arity l ≡ Some l
   within l h = rw (le-leb _ _ h) refl
 
-  pub read_params-again : Again Is tokens inner → (xs : List A) (ms : List Place) (rest : List Placed) → Every Is xs → IsArity (length xs) → AreParamMarks (length xs) ms
+  pub read_params-again : AreEnds Ends → NoClose Is tokens → Again Is Ends tokens inner → (xs : List A) (ms : List Place) (rest : List Placed) → Every Is xs → IsArity (length xs) → AreParamMarks (length xs) ms
       → read_params inner (params_tokens (map tokens xs) ms rest) ≡ Some (listing xs ms rest)
   unfolding read_params
-  read_params-again again [] [] rest h n m = absurd m
-  read_params-again again [] (c ∷ []) rest h n m = absurd m
-  read_params-again again [] (c ∷ a ∷ []) rest h n m = rw (read_mark-again (codes ")") c (mark (codes "->") a ∷ rest), closing_again c a rest) refl
-  read_params-again again [] (c ∷ a ∷ b ∷ ms) rest h n m = absurd m
-  read_params-again again (x ∷ xs) ms rest h n m =
+  read_params-again ends opens again [] [] rest h n m = absurd m
+  read_params-again ends opens again [] (c ∷ []) rest h n m = absurd m
+  read_params-again ends opens again [] (c ∷ a ∷ []) rest h n m = rw (read_mark-again (codes ")") c (mark (codes "->") a ∷ rest), closing_again c a rest) refl
+  read_params-again ends opens again [] (c ∷ a ∷ b ∷ ms) rest h n m = absurd m
+  read_params-again ends opens again (x ∷ xs) ms rest h n m =
       let ts : List Placed = params_tokens (map tokens (x ∷ xs)) ms rest in
       let long : length (x ∷ xs) ≤ suc (length ts) = omega (arith, tokens_long (x ∷ xs) ms rest m) in
-      rw (no_close again x xs ms rest h m, items_again again (suc (length ts)) x xs ms rest h m long) (within (listing (x ∷ xs) ms rest) n)
+      rw (no_close opens x xs ms rest h m, items_again ends again (suc (length ts)) x xs ms rest h m long) (within (listing (x ∷ xs) ms rest) n)
 
 -- ---- what is read is well formed and takes exactly its tokens
 
@@ -105,7 +98,7 @@ ParamsTaken Is tokens ts l = Every Is l.items × IsArity (length l.items) × Are
 
 module _ {A : Type 0} (Is : A → Type 0) (tokens : A → List Placed) (inner : Reads A) where
   -- the last parameter and what closes the list
-  last_takes : (ts : List Placed) (x : A) (us : List Placed) (l : Listed A) → Is x → ts ≡ tokens x ++ us → closed (x ∷ []) us ≡ Some l → Taken Is tokens ts l
+  last_takes : (ts : List Placed) (x : A) (us : List Placed) (l : Listed A) → Is x → ts ≡ tokens x ++ us → closed read_closing (x ∷ []) us ≡ Some l → Taken Is tokens ts l
   last_takes ts x us l h g e =
       let c = bind_some (read_closing us) _ _ e in
       let d = closing_takes us c.0.0 c.0.1 c.1 in
@@ -133,7 +126,7 @@ module _ {A : Type 0} (Is : A → Type 0) (tokens : A → List Placed) (inner : 
     text = g ∙ (ap (λ l. tokens x ++ l) (f ∙ ap (λ l. mark (codes ",") m ∷ l) t.text));
   }
 
-  items_take : Takes Is tokens inner → (k : ℕ) (ts : List Placed) (l : Listed A) → read_items inner k ts ≡ Some l → Taken Is tokens ts l
+  items_take : Takes Is tokens inner → (k : ℕ) (ts : List Placed) (l : Listed A) → read_items inner read_closing k ts ≡ Some l → Taken Is tokens ts l
   unfolding read_items
   items_take takes zero ts l e = absurd cc
   items_take takes (suc k) ts l e =
@@ -142,7 +135,7 @@ module _ {A : Type 0} (Is : A → Type 0) (tokens : A → List Placed) (inner : 
       elim (case_some (read_mark (codes ",") a.0.1) _ _ _ a.2) [
         | inl w ↦ last_takes ts a.0.0 a.0.1 l g.0 g.1 w.1
         | inr w ↦
-            let m = bind_some (read_items inner k w.0.1) _ _ w.2 in
+            let m = bind_some (read_items inner read_closing k w.0.1) _ _ w.2 in
             more_takes ts a.0.0 a.0.1 w.0.0 w.0.1 m.0 l g.0 g.1 (read_mark-takes (codes ",") a.0.1 w.0.0 w.0.1 w.1) (some_is (before a.0.0 w.0.0 m.0) l m.2) (items_take takes k w.0.1 m.0 m.1)
       ]
 
@@ -157,7 +150,7 @@ module _ {A : Type 0} (Is : A → Type 0) (tokens : A → List Placed) (inner : 
   pub read_params-takes : Takes Is tokens inner → (ts : List Placed) (l : Listed A) → read_params inner ts ≡ Some l → ParamsTaken Is tokens ts l
   unfolding read_params
   read_params-takes takes ts l e =
-      let r = bind_some (in_case (read_mark (codes ")") ts) (read_items inner (suc (length ts)) ts) (λ c. closed [] ts)) _ _ e in
+      let r = bind_some (read_list inner read_closing ts) _ _ e in
       let w = within_is r.0 l r.2 in
       elim (case_some (read_mark (codes ")") ts) _ _ _ r.1) [
         | inl n ↦ params_by ts l r.0 (sym w.1) w.0 (items_take takes (suc (length ts)) ts r.0 n.1)

@@ -1,6 +1,6 @@
 -- The well-formed nodes of flat modules, each as the node that its reader makes.
 use Rattle.std.proofs.Common.{◌≡◌, ℕ, List, [], ◌∷◌, ◌++◌, map, length, None, refl, ap, sym, subst, ◌∙◌}
-use Rattle.std.specs.Prelude.{codes, ℤ}
+use Rattle.std.specs.Prelude.{codes}
 use Rattle.erl_tree.specs.Lists.{Every}
 use Rattle.erl_tree.specs.declared.token.Place.{Place}
 use Rattle.erl_tree.specs.declared.token.Node.{Node}
@@ -8,12 +8,8 @@ use Rattle.erl_tree.specs.declared.token.Token.TheVariants as T
 use Rattle.erl_tree.specs.declared.pattern.PatternKind.{PatternKind, out-PatternKind, roll-PatternKind, roll-out-PatternKind}
 use Rattle.erl_tree.specs.declared.pattern.PatternKind.TheVariants as P
 use Rattle.erl_tree.specs.declared.pattern.PatternKind.TheOpen as OP
-use Rattle.erl_tree.specs.declared.type_expr.TypeKind.{TypeKind, out-TypeKind, roll-TypeKind, roll-out-TypeKind}
-use Rattle.erl_tree.specs.declared.type_expr.TypeKind.TheVariants as Y
-use Rattle.erl_tree.specs.declared.type_expr.TypeKind.TheOpen as OY
-use Rattle.erl_tree.specs.declared.type_expr.MapPart.{MapPart}
-use Rattle.erl_tree.specs.declared.expr.ExprKind.{ExprKind, out-ExprKind, roll-ExprKind, roll-out-ExprKind}
-use Rattle.erl_tree.specs.declared.expr.ExprKind.TheVariants as E
+use Rattle.erl_tree.specs.declared.type_expr.TypeKind.{TypeKind}
+use Rattle.erl_tree.specs.declared.expr.ExprKind.{ExprKind}
 use Rattle.erl_tree.specs.declared.expr.ExprKind.TheOpen as OE
 use Rattle.erl_tree.specs.declared.expr.ItemKind.{ItemKind, out-ItemKind, roll-ItemKind, roll-out-ItemKind}
 use Rattle.erl_tree.specs.declared.expr.ItemKind.TheVariants as I
@@ -24,38 +20,13 @@ use Rattle.erl_tree.specs.declared.expr.CatchKind.{CatchKind}
 use Rattle.erl_tree.specs.declared.form.SpecKind.{SpecKind}
 use Rattle.erl_tree.specs.declared.form.SpecClauseKind.{SpecClauseKind}
 use Rattle.erl_tree.specs.declared.form.Function.{Function}
-use Rattle.erl_tree.specs.Spelling.{at, atom, mark, params_tokens, type_tokens, pattern_tokens, expr_tokens, body_tokens, function_tokens, is_type_layer, IsType, is_pattern_layer, IsPattern, is_expr_layer, IsExpr, is_item_layer, IsBody, IsArity, AreParamMarks, clause_layer, is_clause_layer, is_function_layer, IsFunction, is_spec_clause_layer, IsSpecClause, is_spec_layer, IsSpec}
-use Rattle.erl_parser.specs.Reading.{node, clause_kind}
+use Rattle.erl_tree.specs.Spelling.{at, atom, mark, params_tokens, pattern_tokens, expr_tokens, body_tokens, function_tokens, clause_layer}
+use Rattle.erl_tree.specs.Grammar.{node, IsType, is_pattern_layer, IsPattern, IsExpr, is_item_layer, IsBody, IsArity, AreParamMarks, is_clause_layer, is_function_layer, IsFunction, is_spec_clause_layer, IsSpecClause, is_spec_layer, IsSpec}
+use Rattle.erl_parser.specs.Reading.{clause_kind}
 
 -- where the place and the kind are those of another node
 shape_as : {K : Type 0} (Shape : Node K → Type 0) (p q : Place) (ms : List Place) (k l : K) → p ≡ q → k ≡ l → Shape (node q ms l) → Shape (node p ms k)
 shape_as Shape p q ms k l e f h = subst Shape (sym (ap (λ x. node x ms k) e ∙ ap (λ x. node q ms x) f)) h
-
--- ---- types
-
-pub data TypeShape : Node TypeKind → Type 0 where
-  plain : (a : List ℕ) (p : Place) → TypeShape (node p (p ∷ []) (Y.Atom a))
-  named : (a : List ℕ) (p q r : Place) → TypeShape (node p (p ∷ q ∷ r ∷ []) (Y.Use None a []))
-
-type_shape_by : (k : TypeKind) (o : OY.TypeKind-F TypeKind MapPart) (p : Place) (ms : List Place) → out-TypeKind k ≡ o → is_type_layer o p ms → TypeShape (node p ms k)
-type_shape_by k (OY.Atom a) p (q ∷ []) e h = shape_as TypeShape p q (q ∷ []) k (Y.Atom a) h (sym (roll-out-TypeKind k) ∙ (ap roll-TypeKind e ∙ Y.rolls-Atom a)) (plain a q)
-type_shape_by k (OY.Use None a []) p (q ∷ r ∷ s ∷ []) e h = shape_as TypeShape p q (q ∷ r ∷ s ∷ []) k (Y.Use None a []) h (sym (roll-out-TypeKind k) ∙ (ap roll-TypeKind e ∙ Y.rolls-Use None a [])) (named a q r s)
-type_shape_by k _ p ms e h = absurd h
-
-pub type_shape : (t : Node TypeKind) → IsType t → TypeShape t
-type_shape t h = type_shape_by t.kind (out-TypeKind t.kind) t.place t.marks refl h
-
-pub type_tokens-plain : (a : List ℕ) (p : Place) → type_tokens (node p (p ∷ []) (Y.Atom a)) ≡ atom a p ∷ []
-type_tokens-plain a p = rw (Y.outs-Atom a) refl
-
-pub type_tokens-named : (a : List ℕ) (p q r : Place) → type_tokens (node p (p ∷ q ∷ r ∷ []) (Y.Use None a [])) ≡ atom a p ∷ mark (codes "(") q ∷ mark (codes ")") r ∷ []
-type_tokens-named a p q r = rw (Y.outs-Use None a []) refl
-
-pub is_type-plain : (a : List ℕ) (p : Place) → IsType (node p (p ∷ []) (Y.Atom a))
-is_type-plain a p = rw (Y.outs-Atom a) refl
-
-pub is_type-named : (a : List ℕ) (p q r : Place) → IsType (node p (p ∷ q ∷ r ∷ []) (Y.Use None a []))
-is_type-named a p q r = rw (Y.outs-Use None a []) refl
 
 -- ---- patterns
 
@@ -74,40 +45,6 @@ pattern_tokens-variable v p = rw (P.outs-Var v) refl
 
 pub is_pattern-variable : (v : List ℕ) (p : Place) → IsPattern (node p (p ∷ []) (P.Var v))
 is_pattern-variable v p = rw (P.outs-Var v) refl
-
--- ---- expressions
-
-pub data ExprShape : Node ExprKind → Type 0 where
-  integer : (n : ℤ) (p : Place) → ExprShape (node p (p ∷ []) (E.Int n))
-  constant : (a : List ℕ) (p : Place) → ExprShape (node p (p ∷ []) (E.Atom a))
-  use_of : (v : List ℕ) (p : Place) → ExprShape (node p (p ∷ []) (E.Var v))
-
-expr_shape_by : (k : ExprKind) (o : OE.ExprKind-F ExprKind ItemKind QualifierKind AssocKind CatchKind ClauseKind) (p : Place) (ms : List Place) → out-ExprKind k ≡ o → is_expr_layer o p ms → ExprShape (node p ms k)
-expr_shape_by k (OE.Int n) p (q ∷ []) e h = shape_as ExprShape p q (q ∷ []) k (E.Int n) h (sym (roll-out-ExprKind k) ∙ (ap roll-ExprKind e ∙ E.rolls-Int n)) (integer n q)
-expr_shape_by k (OE.Atom a) p (q ∷ []) e h = shape_as ExprShape p q (q ∷ []) k (E.Atom a) h (sym (roll-out-ExprKind k) ∙ (ap roll-ExprKind e ∙ E.rolls-Atom a)) (constant a q)
-expr_shape_by k (OE.Var v) p (q ∷ []) e h = shape_as ExprShape p q (q ∷ []) k (E.Var v) h (sym (roll-out-ExprKind k) ∙ (ap roll-ExprKind e ∙ E.rolls-Var v)) (use_of v q)
-expr_shape_by k _ p ms e h = absurd h
-
-pub expr_shape : (x : Node ExprKind) → IsExpr x → ExprShape x
-expr_shape x h = expr_shape_by x.kind (out-ExprKind x.kind) x.place x.marks refl h
-
-pub expr_tokens-integer : (n : ℤ) (p : Place) → expr_tokens (node p (p ∷ []) (E.Int n)) ≡ at (T.Int n) p ∷ []
-expr_tokens-integer n p = rw (E.outs-Int n) refl
-
-pub expr_tokens-constant : (a : List ℕ) (p : Place) → expr_tokens (node p (p ∷ []) (E.Atom a)) ≡ atom a p ∷ []
-expr_tokens-constant a p = rw (E.outs-Atom a) refl
-
-pub expr_tokens-use_of : (v : List ℕ) (p : Place) → expr_tokens (node p (p ∷ []) (E.Var v)) ≡ at (T.Var v) p ∷ []
-expr_tokens-use_of v p = rw (E.outs-Var v) refl
-
-pub is_expr-integer : (n : ℤ) (p : Place) → IsExpr (node p (p ∷ []) (E.Int n))
-is_expr-integer n p = rw (E.outs-Int n) refl
-
-pub is_expr-constant : (a : List ℕ) (p : Place) → IsExpr (node p (p ∷ []) (E.Atom a))
-is_expr-constant a p = rw (E.outs-Atom a) refl
-
-pub is_expr-use_of : (v : List ℕ) (p : Place) → IsExpr (node p (p ∷ []) (E.Var v))
-is_expr-use_of v p = rw (E.outs-Var v) refl
 
 -- ---- bodies
 

@@ -3,14 +3,14 @@ use Rattle.std.proofs.Common.{◌≡◌, sym, subst, inl, inr, ℕ, List, [], �
 use Rattle.std.specs.Prelude.{IfOk}
 use Rattle.erl_tree.specs.Lists.{Every, Among}
 use Rattle.erl_tree.specs.Lexis.{SpellsTokens, start}
-use Rattle.erl_tree.specs.Spelling.{tokens_of, SpellsModule}
+use Rattle.erl_tree.specs.Spelling.{tokens_of}
+use Rattle.erl_tree.specs.Grammar.{SpellsModule}
+use Rattle.erl_tree.specs.Limits.{IsAboveLimit, HasIntegersInLimit}
 use Rattle.erl_tree.specs.Readable.{IsFlatModule}
 use Rattle.erl_tree.specs.declared.token.Placed.{Placed}
 use Rattle.erl_tree.specs.declared.form.Module.{Module}
 use Rattle.erl_tree.proofs.Spelled.{one_spelling}
-use Rattle.erl_lexer.specs.Plain.{IsAboveLimit, IsInLimit}
 use Rattle.erl_parser.specs.declared.fault.FirstFault.{FirstFault}
-use Rattle.erl_parser.specs.Answers.{HasIntegersInLimit}
 use Rattle.erl_parser.proofs.ModuleLaws.{one_module}
 
 -- the tokens of a module that the bytes spell are the ones that they spell
@@ -31,8 +31,3 @@ every_at P x (y ∷ ys) h (inr a) = every_at P x ys h.1 a
 -- integers in the limit are not above it
 pub in_limit : (m : Module) → HasIntegersInLimit m → (t : Placed) × Among t (tokens_of m) × IsAboveLimit t.token → ⊥
 in_limit m h (t, a, w) = every_at (λ (u : Placed). IsAboveLimit u.token → ⊥) t (tokens_of m) h a w
-
--- tokens in the limit are those of a module in the limit
-pub module_in_limit : (tokens : List Placed) (r : Result Module FirstFault) → Every (λ t. IsInLimit t.token) tokens → IfOk r (λ m. tokens_of m ≡ tokens) → IfOk r (λ m. HasIntegersInLimit m)
-module_in_limit tokens (Ok m) h e = subst (λ (ts : List Placed). Every (λ t. IsInLimit t.token) ts) (sym e) h
-module_in_limit tokens (Err fault) h e = tt

@@ -1,5 +1,5 @@
 -- The readers of single tokens: each reads its token again, and takes only its token.
-use Rattle.std.proofs.Common.{◌≡◌, ℕ, Bool, true, false, List, [], ◌∷◌, Option, Some, None, refl, ap, ◌∙◌, inl, inr}
+use Rattle.std.proofs.Common.{◌≡◌, ℕ, ℤ, Bool, true, false, List, [], ◌∷◌, Option, Some, None, refl, ap, ◌∙◌, inl, inr}
 use Rattle.std.specs.Prelude.{◌⊎◌, if◌then◌else◌}
 use Rattle.std.specs.Str.{bytes_eq}
 use Rattle.std.proofs.lemmas.Slice.Eq.{bytes_eq-Decides}
@@ -8,7 +8,7 @@ use Rattle.erl_tree.specs.declared.token.Placed.{Placed}
 use Rattle.erl_tree.specs.declared.token.Token.{Token}
 use Rattle.erl_tree.specs.declared.token.Token.TheVariants as T
 use Rattle.erl_tree.specs.Spelling.{at, atom, mark}
-use Rattle.erl_parser.specs.Reading.{◌>>=◌, in_case, is_mark, read_mark, is_word, read_word, atom_name, read_atom, is_dot, read_dot, end_place, read_end}
+use Rattle.erl_parser.specs.Reading.{◌>>=◌, in_case, is_mark, read_mark, is_word, read_word, atom_name, read_atom, integer_value, read_integer, is_dot, read_dot, end_place, read_end}
 
 -- ---- optional values
 
@@ -94,6 +94,25 @@ read_atom-takes (t ∷ ts) name p rest e =
     let g = pair_is (h.0, t.place) (name, p) ts rest h.2 in
     let n = pair_is h.0 name t.place p (ap some g.0) in
     place_is t (T.Atom name) p ts rest (atom_name-takes t.token h.0 h.1 ∙ ap T.Atom n.0) n.1 g.1
+
+-- ---- integers
+
+pub read_integer-again : (n : ℤ) (p : Place) (ts : List Placed) → read_integer (at (T.Int n) p ∷ ts) ≡ Some ((n, p), ts)
+unfolding read_integer
+read_integer-again n p ts = refl
+
+integer_value-takes : (t : Token) (n : ℤ) → integer_value t ≡ Some n → t ≡ T.Int n
+integer_value-takes (T.Int m) n e = ap T.Int (some_is m n e)
+integer_value-takes _ n e = absurd cc
+
+pub read_integer-takes : (ts : List Placed) (n : ℤ) (p : Place) (rest : List Placed) → read_integer ts ≡ Some ((n, p), rest) → ts ≡ at (T.Int n) p ∷ rest
+unfolding read_integer
+read_integer-takes [] n p rest e = absurd cc
+read_integer-takes (t ∷ ts) n p rest e =
+    let h = bind_some (integer_value t.token) _ _ e in
+    let g = pair_is (h.0, t.place) (n, p) ts rest h.2 in
+    let m = pair_is h.0 n t.place p (ap some g.0) in
+    place_is t (T.Int n) p ts rest (integer_value-takes t.token h.0 h.1 ∙ ap T.Int m.0) m.1 g.1
 
 -- ---- dots
 

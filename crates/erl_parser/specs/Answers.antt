@@ -1,9 +1,5 @@
 -- What a call gives where memory may run out.
 use Rattle.std.specs.Prelude.{◌≡◌, Result, Ok, Err}
-use Rattle.erl_tree.specs.Lists.{Every}
-use Rattle.erl_tree.specs.Spelling.{tokens_of}
-use Rattle.erl_tree.specs.declared.form.Module.{Module}
-use Rattle.erl_lexer.specs.Plain.{IsInLimit}
 use Rattle.erl_parser.specs.declared.fault.FirstFault.{FirstFault}
 use Rattle.erl_parser.specs.declared.fault.FirstFault.TheVariants as faults
 
@@ -12,7 +8,3 @@ abbrev pub IsOrNoMemory : {A : Type 0} → A → Result A FirstFault → Type 0
 IsOrNoMemory x (Ok y) = y ≡ x
 IsOrNoMemory x (Err faults.NoMemory) = Unit {0}
 IsOrNoMemory x (Err faults.NotBuilt) = ⊥
-
--- each integer of the module's text is at most the limit of source texts
-abbrev pub HasIntegersInLimit : Module → Type 0
-HasIntegersInLimit m = Every (λ t. IsInLimit t.token) (tokens_of m)

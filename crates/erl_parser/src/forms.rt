@@ -1,13 +1,16 @@
 //! Functions and specs.
 
 ghost use Rattle.std.specs.Prelude.{◌≡◌, ◌<◌, ◌∷◌, [], length, IfOk};
+ghost use Rattle.erl_tree.specs.Grammar.{node};
+ghost use Rattle.erl_tree.specs.Limits.{nesting_limit};
 ghost use Rattle.erl_parser.specs.Reading as reading;
 ghost use Rattle.erl_parser.specs.Reading.{Gives};
 
 use crate::fault::FirstFault;
 use crate::parameters::parameters;
-use crate::parts::{body, node, single, type_expr};
+use crate::parts::{body, node, single};
 use crate::tokens::{expect_atom, expect_dot, expect_mark, expect_word, mark};
+use crate::types::type_expr;
 use erl_tree::{
     Clause, ClauseKind, Function, Item, Node, Pattern, Place, Placed, SpecClause, SpecClauseKind,
     SpecKind, TreeForm, TypeExpr,
@@ -24,7 +27,7 @@ fn clause(
     patterns: List<Pattern>,
     body: List<Item>,
 ) -> Result<Clause, NoMemory>
-    ensures { IfOk result (λ x. x ≡ reading.node place (place ∷ opening ∷ more) (reading.clause_kind patterns body)) }
+    ensures { IfOk result (λ x. x ≡ node place (place ∷ opening ∷ more) (reading.clause_kind patterns body)) }
 {
     let mut marks = List::from_slice(alloc, &[place, opening])?;
     marks.append(more)?;
@@ -39,7 +42,7 @@ fn clause(
 /// `name(P, ..) -> E.`
 #[tactic(auto, unfolding(crate::specs::Reading::read_function))]
 fn function(alloc: Global, tokens: &[Placed]) -> Result<(Function, &[Placed]), FirstFault>
-    ensures exact { Gives (λ x. (x.0, x.1.now)) result (reading.read_function tokens.now) }
+    ensures exact { Gives (λ x. (x.0, x.1.now)) result (reading.read_function nesting_limit tokens.now) }
     ensures shorter { IfOk result (λ x. length x.1.now < length tokens.now) }
 {
     let (name, place, rest) = expect_atom(alloc, tokens)?;
@@ -60,7 +63,7 @@ fn function(alloc: Global, tokens: &[Placed]) -> Result<(Function, &[Placed]), F
 /// `(T, ..) -> T`.
 #[tactic(auto, unfolding(crate::specs::Reading::read_spec_clause))]
 fn spec_clause(alloc: Global, tokens: &[Placed]) -> Result<(SpecClause, &[Placed]), FirstFault>
-    ensures exact { Gives (λ x. (x.0, x.1.now)) result (reading.read_spec_clause tokens.now) }
+    ensures exact { Gives (λ x. (x.0, x.1.now)) result (reading.read_spec_clause nesting_limit tokens.now) }
     ensures shorter { IfOk result (λ x. length x.1.now < length tokens.now) }
 {
     let (open, rest) = expect_mark(tokens, b"(")?;
@@ -79,7 +82,7 @@ fn spec_clause(alloc: Global, tokens: &[Placed]) -> Result<(SpecClause, &[Placed
 /// `-spec name(T, ..) -> T.`
 #[tactic(auto, unfolding(crate::specs::Reading::read_spec))]
 fn spec(alloc: Global, tokens: &[Placed]) -> Result<(Node<SpecKind>, &[Placed]), FirstFault>
-    ensures exact { Gives (λ x. (x.0, x.1.now)) result (reading.read_spec tokens.now) }
+    ensures exact { Gives (λ x. (x.0, x.1.now)) result (reading.read_spec nesting_limit tokens.now) }
     ensures shorter { IfOk result (λ x. length x.1.now < length tokens.now) }
 {
     let (hyphen, rest) = expect_mark(tokens, b"-")?;
@@ -98,7 +101,7 @@ fn spec(alloc: Global, tokens: &[Placed]) -> Result<(Node<SpecKind>, &[Placed]),
 /// A form behind the first one. A hyphen begins a spec, anything else a function.
 #[tactic(auto, unfolding(crate::specs::Reading::read_form))]
 pub(crate) fn form(alloc: Global, tokens: &[Placed]) -> Result<(TreeForm, &[Placed]), FirstFault>
-    ensures exact { Gives (λ x. (x.0, x.1.now)) result (reading.read_form tokens.now) }
+    ensures exact { Gives (λ x. (x.0, x.1.now)) result (reading.read_form nesting_limit tokens.now) }
     ensures shorter { IfOk result (λ x. length x.1.now < length tokens.now) }
 {
     match mark(tokens, b"-") {

@@ -2,6 +2,7 @@
 //! Manual ("Modules", "Functions", "Types and Function Specifications"), in its part on flat modules.
 #![tactic(auto)]
 
+mod expressions;
 mod fault;
 mod forms;
 mod parameters;
@@ -9,6 +10,7 @@ mod parse;
 mod parts;
 mod read;
 mod tokens;
+mod types;
 
 pub use fault::FirstFault;
 pub use parse::one_tree;

@@ -2,12 +2,14 @@
 
 ghost use Rattle.std.specs.Prelude.{◌≡◌, ◌<◌, ◌∷◌, [], List, Option, suc, length, IfOk};
 ghost use Rattle.erl_tree.specs.declared.token.Placed.{Placed as Entry};
+ghost use Rattle.erl_tree.specs.Limits.{nesting_limit};
 ghost use Rattle.erl_parser.specs.Reading as reading;
 ghost use Rattle.erl_parser.specs.Reading.{Gives, Reads, listing};
 
 use crate::fault::FirstFault;
-use crate::parts::{pattern, type_expr};
+use crate::parts::pattern;
 use crate::tokens::{expect_mark, mark};
+use crate::types::type_expr;
 use erl_tree::{Pattern, Place, Placed, TypeExpr};
 use std::alloc::Global;
 use type_terms::List;
@@ -26,7 +28,7 @@ pub(crate) trait Parameter: Drop {
 }
 
 impl Parameter for TypeExpr {
-    ghost read = { reading.read_type };
+    ghost read = { reading.read_type nesting_limit };
 
     fn parse(alloc: Global, tokens: &[Placed]) -> Result<(TypeExpr, &[Placed]), FirstFault> {
         type_expr(alloc, tokens)
@@ -57,7 +59,7 @@ fn items<P: Parameter>(
     alloc: Global,
     tokens: &[Placed],
 ) -> Result<(List<P>, List<Place>, &[Placed]), FirstFault>
-    ensures exact { Gives (λ x. listing x.0 x.1 x.2.now) result (reading.read_items P.read (suc (length tokens.now)) tokens.now) }
+    ensures exact { Gives (λ x. listing x.0 x.1 x.2.now) result (reading.read_items P.read reading.read_closing (suc (length tokens.now)) tokens.now) }
     ensures shorter { IfOk result (λ x. length x.2.now < length tokens.now) }
 {
     let mut found = List::new(alloc);

@@ -3,7 +3,9 @@
 ghost use Rattle.std.specs.Prelude.{◌≡◌, ◌<◌, ◌∷◌, [], List as Listing, suc, length, IfOk};
 ghost use Rattle.erl_tree.specs.declared.token.Placed.{Placed as Entry};
 ghost use Rattle.erl_tree.specs.declared.form.Module.{Module as Tree};
-ghost use Rattle.erl_tree.specs.Spelling.{tokens_of, IsWellFormed};
+ghost use Rattle.erl_tree.specs.Spelling.{tokens_of};
+ghost use Rattle.erl_tree.specs.Grammar.{IsWellFormed};
+ghost use Rattle.erl_tree.specs.Limits.{nesting_limit, IsShallow};
 ghost use Rattle.erl_parser.specs.Answers.{IsOrNoMemory};
 ghost use Rattle.erl_parser.specs.Reading as reading;
 ghost use Rattle.erl_parser.specs.Reading.{Gives};
@@ -32,7 +34,7 @@ fn header(alloc: Global, tokens: &[Placed]) -> Result<(Text, List<Place>, &[Plac
 
 /// Forms up to the end of the text, and its place.
 fn forms(alloc: Global, tokens: &[Placed]) -> Result<(List<TreeForm>, Place), FirstFault>
-    ensures exact { Gives (λ x. x) result (reading.read_forms (suc (length tokens.now)) tokens.now) }
+    ensures exact { Gives (λ x. x) result (reading.read_forms nesting_limit (suc (length tokens.now)) tokens.now) }
 {
     let mut found = List::new(alloc);
     let mut rest = tokens;
@@ -50,7 +52,7 @@ fn forms(alloc: Global, tokens: &[Placed]) -> Result<(List<TreeForm>, Place), Fi
 
 #[tactic(auto, unfolding(crate::specs::Reading::read_module))]
 fn module(alloc: Global, tokens: &[Placed]) -> Result<Module, FirstFault>
-    ensures exact { Gives (λ x. x) result (reading.read_module tokens.now) }
+    ensures exact { Gives (λ x. x) result (reading.read_module nesting_limit tokens.now) }
 {
     let (name, mut marks, rest) = header(alloc, tokens)?;
     let (forms, end) = forms(alloc, rest)?;
@@ -58,21 +60,23 @@ fn module(alloc: Global, tokens: &[Placed]) -> Result<Module, FirstFault>
     Ok(Module { name, marks, forms })
 }
 
-/// The flat module that these tokens are, all of them.
+/// The module that these tokens are, all of them: one of the grammar's part on flat modules, whose
+/// types and expressions are nested at most 256 levels deep.
 ///
 /// # Errors
 ///
-/// `NotBuilt` where they are no flat module, and `NoMemory` where memory runs out.
+/// `NotBuilt` where they are no such module, and `NoMemory` where memory runs out.
 pub(crate) fn parse_flat(alloc: Global, tokens: &[Placed]) -> Result<Module, FirstFault>
-    // What is given is a well-formed module with exactly these tokens.
-    ensures found { IfOk result (λ m. (tokens_of m ≡ tokens.now) × (IsWellFormed m)) }
-    // A well-formed module with these tokens is what is given, unless memory runs out.
-    ensures only { (m : Tree) → IsWellFormed m → tokens_of m ≡ tokens.now → IsOrNoMemory m result }
+    // What is given is a well-formed module with exactly these tokens, nested within the limit.
+    ensures found { IfOk result (λ m. (tokens_of m ≡ tokens.now) × IsWellFormed m × IsShallow m) }
+    // A well-formed module with these tokens, nested within the limit, is what is given, unless
+    // memory runs out.
+    ensures only { (m : Tree) → IsWellFormed m → IsShallow m → tokens_of m ≡ tokens.now → IsOrNoMemory m result }
 {
     module(alloc, tokens)
 }
 
-/// No tokens are those of two modules.
+/// No tokens are those of two modules, however deep they are nested.
 pub fn one_tree()
     ensures { (tokens : Listing Entry) (m n : Tree) → IsWellFormed m → IsWellFormed n → tokens_of m ≡ tokens → tokens_of n ≡ tokens → m ≡ n }
 {}

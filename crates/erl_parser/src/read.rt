@@ -2,9 +2,11 @@
 
 ghost use Rattle.std.specs.Prelude.{◌≡◌, ◌<◌, ◌+◌, ◌^◌, length, IfOk, IsErrOf};
 ghost use Rattle.erl_tree.specs.declared.form.Module.{Module as Tree};
+ghost use Rattle.erl_tree.specs.Lists.{Every};
+ghost use Rattle.erl_tree.specs.Spelling.{tokens_of};
+ghost use Rattle.erl_tree.specs.Grammar.{SpellsModule};
+ghost use Rattle.erl_tree.specs.Limits.{IsInLimit};
 ghost use Rattle.erl_tree.specs.Readable.{IsFlatModule};
-ghost use Rattle.erl_tree.specs.Spelling.{SpellsModule, tokens_of};
-ghost use Rattle.erl_parser.specs.Answers.{HasIntegersInLimit};
 
 use crate::fault::FirstFault;
 use crate::parse::parse_flat;
@@ -16,6 +18,7 @@ use type_terms::NoMemory;
 
 /// The flat module with these tokens, all of them.
 fn read_tokens(alloc: Global, tokens: &[Placed]) -> Result<Module, FirstFault>
+    requires { Every (λ t. IsInLimit t.token) tokens.now }
     ensures found { IfOk result (λ m. tokens_of m ≡ tokens.now) }
     ensures flat { IfOk result (λ m. IsFlatModule m) }
     ensures not_built { IsErrOf result FirstFault.NotBuilt → (m : Tree) → IsFlatModule m → tokens_of m ≡ tokens.now → ⊥ }
@@ -30,8 +33,8 @@ fn read_tokens(alloc: Global, tokens: &[Placed]) -> Result<Module, FirstFault>
     }
 }
 
-/// Reads the text of a flat module (`docs/LANGUAGE.md`), whose tokens are plain and whose integers
-/// are at most 2^127 - 2.
+/// Reads the text of a flat module (`docs/LANGUAGE.md`), whose integers are at most 2^127 - 2, and
+/// whose types and expressions are nested at most 256 levels deep.
 ///
 /// # Errors
 ///
@@ -42,9 +45,8 @@ pub fn read_first(alloc: Global, bytes: &[u8]) -> Result<Module, FirstFault>
     ensures spelled { IfOk result (λ m. SpellsModule bytes.now m) }
     ensures only { IfOk result (λ m. (other : Tree) → SpellsModule bytes.now other → other ≡ m) }
     ensures flat { IfOk result (λ m. IsFlatModule m) }
-    ensures limit { IfOk result (λ m. HasIntegersInLimit m) }
-    // Whatever flat module the bytes spell, it has an integer above the limit.
-    ensures not_built { IsErrOf result FirstFault.NotBuilt → (m : Tree) → SpellsModule bytes.now m → IsFlatModule m → HasIntegersInLimit m → ⊥ }
+    // The bytes spell no flat module.
+    ensures not_built { IsErrOf result FirstFault.NotBuilt → (m : Tree) → SpellsModule bytes.now m → IsFlatModule m → ⊥ }
 {
     match lex_plain(alloc, bytes) {
         Err(PlainFault::NoMemory) => Err(FirstFault::NoMemory),

@@ -104,6 +104,21 @@ pub(crate) fn expect_atom(
     }
 }
 
+/// An integer, by its value and its place.
+#[tactic(auto, unfolding(crate::specs::Reading::read_integer))]
+pub(crate) fn expect_integer(tokens: &[Placed]) -> Result<(i128, Place, &[Placed]), FirstFault>
+    ensures exact { Gives (λ x. ((x.0, x.1), x.2.now)) result (reading.read_integer tokens.now) }
+    ensures shorter { IfOk result (λ x. length x.2.now < length tokens.now) }
+{
+    match front(tokens) {
+        None => Err(FirstFault::NotBuilt),
+        Some((first, rest)) => match first.token {
+            Token::Int(value) => Ok((value, first.place, rest)),
+            _ => Err(FirstFault::NotBuilt),
+        },
+    }
+}
+
 /// The dot of a form.
 #[tactic(auto, unfolding(crate::specs::Reading::read_dot))]
 pub(crate) fn expect_dot(tokens: &[Placed]) -> Result<(Place, &[Placed]), FirstFault>

@@ -13,7 +13,7 @@ use Rattle.function_table.proofs.Distinct.{AreDistinct-push}
 use Rattle.function_table.proofs.Lookups.{Among-ids}
 use Rattle.erl_scope.specs.declared.function_names.Role.{Role}
 use Rattle.erl_scope.specs.declared.function_names.Role.TheVariants.{Definition, Specification}
-use Rattle.erl_scope.specs.Names.{named_by, names_in, IsNamedAmong, HasMatchingNames}
+use Rattle.erl_scope.specs.Names.{named_by, names_in, IsNamedAmong, FormCallsOnly, HasMatchingNames}
 use Rattle.erl_scope.proofs.ForEach.{rest_at}
 use Rattle.erl_scope.proofs.Everywhere.{Every-among, Every-made, Every-unmade}
 use Rattle.erl_scope.proofs.Variables.{AreDistinct-left, AreDistinct-apart}
@@ -50,6 +50,10 @@ pub named_if_found : (es : List Entry) (id : FunctionId) (o : Option ℕ) (b : B
 named_if_found es id (Some n) b named is e h = ((λ _. subst (Every (λ i. Among i (ids es))) (sym is) (Among-ids id n es h, tt)), λ _. e)
 named_if_found es id None b named is e h =
     ((λ t. absurd (true≢false (sym t ∙ e))), λ g. absurd (h ((subst (Every (λ i. Among i (ids es))) is g).0)))
+
+pub defined_if_found : (es : List Entry) (id : FunctionId) (o : Option ℕ) (b : Bool) → b ≡ is_some o → IsFound es id o → IsTrue b ↔ Among id (ids es)
+defined_if_found es id (Some n) b e h = ((λ _. Among-ids id n es h), λ _. e)
+defined_if_found es id None b e h = ((λ t. absurd (true≢false (sym t ∙ e))), λ g. absurd (h g))
 
 -- ---- the table of the functions that forms name
 
@@ -101,17 +105,25 @@ module _ (forms : List TreeForm) (specs : List FunctionId) (all_specs : specs �
     λ g. absurd (true≢false (sym (says.1 (named_all Definition specs forms (subst (λ s. Every (λ id. Among id s) (names_in Definition forms)) (sym all_specs) g.specified))) ∙ fails)),
   )
 
-  pub matching : (definitions : List FunctionId) → definitions ≡ names_in Definition forms → AreDistinct definitions → AreDistinct specs → (b : Bool) → (IsTrue b ↔ Every (IsNamedAmong definitions Specification) forms) → a ≡ true → IsTrue b ↔ HasMatchingNames forms
-  matching definitions all_definitions distinct distinct_specs b tells holds = (
-    (λ e. record {
-      defined_once = subst AreDistinct all_definitions distinct;
-      specified_once = subst AreDistinct all_specs distinct_specs;
-      specified = subst (λ s. Every (λ id. Among id s) (names_in Definition forms)) all_specs (all_named Definition specs forms (says.0 holds));
-      defined = subst (λ s. Every (λ id. Among id s) (names_in Specification forms)) all_definitions (all_named Specification definitions forms (tells.0 e));
-    }),
-    λ g. tells.1 (named_all Specification definitions forms (subst (λ s. Every (λ id. Among id s) (names_in Specification forms)) (sym all_definitions) g.defined)),
-  )
+  module _ (definitions : List FunctionId) (all_definitions : definitions ≡ names_in Definition forms) (b : Bool) (tells : IsTrue b ↔ Every (IsNamedAmong definitions Specification) forms) where
+    pub not_defined : b ≡ false → IsTrue false ↔ HasMatchingNames forms
+    not_defined fails = (
+      (λ e. absurd (true≢false (sym e))),
+      λ g. absurd (true≢false (sym (tells.1 (named_all Specification definitions forms (subst (λ s. Every (λ id. Among id s) (names_in Specification forms)) (sym all_definitions) g.defined))) ∙ fails)),
+    )
 
-  pub matching_if_ok : (definitions : List FunctionId) → definitions ≡ names_in Definition forms → AreDistinct definitions → AreDistinct specs → (r : Result Bool NoMemory) → IfOk r (λ b. IsTrue b ↔ Every (IsNamedAmong definitions Specification) forms) → a ≡ true → IfOk r (λ b. IsTrue b ↔ HasMatchingNames forms)
-  matching_if_ok definitions all_definitions distinct distinct_specs (Ok b) tells holds = matching definitions all_definitions distinct distinct_specs b tells holds
-  matching_if_ok definitions all_definitions distinct distinct_specs (Err e) tells holds = tells
+    pub matching : AreDistinct definitions → AreDistinct specs → a ≡ true → b ≡ true → (d : Bool) → (IsTrue d ↔ Every (FormCallsOnly definitions) forms) → IsTrue d ↔ HasMatchingNames forms
+    matching distinct distinct_specs holds too d called = (
+      (λ e. record {
+        defined_once = subst AreDistinct all_definitions distinct;
+        specified_once = subst AreDistinct all_specs distinct_specs;
+        specified = subst (λ s. Every (λ id. Among id s) (names_in Definition forms)) all_specs (all_named Definition specs forms (says.0 holds));
+        defined = subst (λ s. Every (λ id. Among id s) (names_in Specification forms)) all_definitions (all_named Specification definitions forms (tells.0 too));
+        calls_defined = subst (λ s. Every (FormCallsOnly s) forms) all_definitions (called.0 e);
+      }),
+      λ g. called.1 (subst (λ s. Every (FormCallsOnly s) forms) (sym all_definitions) g.calls_defined),
+    )
+
+    pub matching_if_ok : AreDistinct definitions → AreDistinct specs → a ≡ true → b ≡ true → (r : Result Bool NoMemory) → IfOk r (λ d. IsTrue d ↔ Every (FormCallsOnly definitions) forms) → IfOk r (λ d. IsTrue d ↔ HasMatchingNames forms)
+    matching_if_ok distinct distinct_specs holds too (Ok d) called = matching distinct distinct_specs holds too d called
+    matching_if_ok distinct distinct_specs holds too (Err e) called = called

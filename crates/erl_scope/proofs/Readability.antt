@@ -1,20 +1,25 @@
 -- The tests of the forms and of their names say together that a module is flat.
-use Rattle.std.proofs.Common.{◌≡◌, List, [], ◌∷◌, map, ◌↔◌, Bool, true, false, refl, sym, ap, ◌∙◌, subst, true≢false, Option, Some, None, is_some}
+use Rattle.std.proofs.Common.{◌≡◌, List, [], ◌∷◌, ◌++◌, map, ◌↔◌, Bool, true, false, refl, sym, ap, ◌∙◌, subst, true≢false, Option, Some, None, is_some}
 use Rattle.std.specs.Prelude.{IsTrue, IsSome, IfOk, Result, Ok, Err}
 use Rattle.std.specs.Option.{unwrap_or}
 use Rattle.type_terms.specs.declared.list.NoMemory.{NoMemory}
 use Rattle.type_terms.specs.declared.spec.FunSpec.{FunSpec}
+use Rattle.erl_tree.specs.declared.token.Node.{Node}
+use Rattle.erl_tree.specs.declared.expr.ItemKind.{ItemKind, out-ItemKind}
+use Rattle.erl_tree.specs.declared.expr.ClauseKind.{ClauseKind, out-ClauseKind}
 use Rattle.erl_tree.specs.declared.form.Function.{Function}
 use Rattle.erl_tree.specs.declared.form.TreeForm.{TreeForm}
 use Rattle.erl_tree.specs.declared.form.TreeForm.TheVariants as F
 use Rattle.erl_tree.specs.declared.form.Module.{Module}
 use Rattle.erl_tree.specs.Lists.{Every, Among, AreDistinct}
-use Rattle.erl_tree.specs.Functions.{function_id, functions_in, function_ids}
+use Rattle.erl_tree.specs.Functions.{FunctionId, function_id, functions_in, function_ids}
 use Rattle.erl_tree.specs.Specs.{function_spec, specs_in, read_specs, specs_of, spec_id}
-use Rattle.erl_tree.specs.Spelling.{IsWellFormed}
-use Rattle.erl_tree.specs.Readable.{IsScoped, IsScopedClause, HasDistinctHead, HasDistinctHeads, is_built_in, IsFlatModule}
+use Rattle.erl_tree.specs.Grammar.{IsWellFormed}
+use Rattle.erl_tree.specs.Limits.{IsShallow, HasIntegersInLimit}
+use Rattle.erl_tree.specs.Readable.{IsScoped, IsScopedClause, FunctionCallsOnly, CallsOnly, called_item_layer, built_ins, HasDistinctHead, HasDistinctHeads, is_built_in, IsFlatModule}
+use Rattle.function_table.proofs.Distinct.{Among-append_left}
 use Rattle.erl_scope.specs.declared.function_names.Role.TheVariants.{Definition, Specification}
-use Rattle.erl_scope.specs.Names.{names_in, IsRightClause, IsRightFunction, IsRightForm, HasMatchingNames}
+use Rattle.erl_scope.specs.Names.{names_in, FormCallsOnly, IsRightClause, IsRightFunction, IsRightForm, HasMatchingNames}
 use Rattle.erl_scope.proofs.Everywhere.{Every-as, Every-both, Every-map}
 use Rattle.erl_scope.proofs.SpecTerms.{all-some, some-all, spec_ids}
 use Rattle.erl_scope.proofs.FunctionNames.{defined, specified}
@@ -49,6 +54,31 @@ functions_right : (fs : List Function) → Every (λ id. is_built_in id ≡ fals
 functions_right [] h g k = tt
 functions_right (f ∷ fs) h g k = ((h.0, Every-both IsScopedClause HasDistinctHead f.clauses g.0 k.0), functions_right fs h.1 g.1 k.1)
 
+-- ---- calls
+
+form_calls : (ids : List FunctionId) (forms : List TreeForm) → Every (FormCallsOnly ids) forms → Every (FunctionCallsOnly ids) (functions_in forms)
+form_calls ids [] h = tt
+form_calls ids (F.Function f ∷ forms) h = (h.0, form_calls ids forms h.1)
+form_calls ids (_ ∷ forms) h = form_calls ids forms h.1
+
+calls_of_forms : (ids : List FunctionId) (forms : List TreeForm) → Every (FunctionCallsOnly ids) (functions_in forms) → Every (FormCallsOnly ids) forms
+calls_of_forms ids [] h = tt
+calls_of_forms ids (F.Function f ∷ forms) h = (h.0, calls_of_forms ids forms h.1)
+calls_of_forms ids (_ ∷ forms) h = (tt, calls_of_forms ids forms h)
+
+-- calls of some functions are calls of these or others
+module _ (ids others : List FunctionId) where
+  more_for_item : (i : Node ItemKind) → Every (λ id. Among id ids) (called_item_layer (out-ItemKind i.kind)) → Every (λ id. Among id (ids ++ others)) (called_item_layer (out-ItemKind i.kind))
+  more_for_item i h = Every-as (λ id. Among id ids) (λ id. Among id (ids ++ others)) (λ id there. Among-append_left id ids others there) (called_item_layer (out-ItemKind i.kind)) h
+
+  more_for_clause : (c : Node ClauseKind) → CallsOnly ids c → CallsOnly (ids ++ others) c
+  more_for_clause c h =
+      Every-as (λ (i : Node ItemKind). Every (λ id. Among id ids) (called_item_layer (out-ItemKind i.kind))) (λ (i : Node ItemKind). Every (λ id. Among id (ids ++ others)) (called_item_layer (out-ItemKind i.kind))) more_for_item
+      (out-ClauseKind c.kind).body h
+
+  more_for_functions : (fs : List Function) → Every (FunctionCallsOnly ids) fs → Every (FunctionCallsOnly (ids ++ others)) fs
+  more_for_functions fs h = Every-as (FunctionCallsOnly ids) (FunctionCallsOnly (ids ++ others)) (λ f g. Every-as (CallsOnly ids) (CallsOnly (ids ++ others)) more_for_clause f.clauses g) fs h
+
 -- ---- specs
 
 there : (o : Option (List FunSpec)) → IsSome o → o ≡ Some (unwrap_or o [])
@@ -61,12 +91,13 @@ specs_there m h = there (read_specs m) h
 
 -- ---- the whole
 
-pub flat : (m : Module) → IsWellFormed m → Every IsRightForm m.forms → HasMatchingNames m.forms → IsFlatModule m
-flat m well_formed forms names =
+pub flat : (m : Module) → IsWellFormed m → IsShallow m → HasIntegersInLimit m → Every IsRightForm m.forms → HasMatchingNames m.forms → IsFlatModule m
+flat m well_formed shallow in_limit forms names =
     let right : Every IsRightFunction (functions_in m.forms) = right_functions m.forms forms in
     let read : read_specs m ≡ Some (specs_of m) = specs_there m (all-some function_spec (specs_in m.forms) (right_specs m.forms forms)) in
     let ids : names_in Definition m.forms ≡ function_ids m = defined m.forms in
     let specs : names_in Specification m.forms ≡ map spec_id (specs_of m) = specified m.forms ∙ sym (spec_ids (specs_in m.forms) (specs_of m) read) in
+    let calls : Every (FunctionCallsOnly (function_ids m)) (functions_in m.forms) = form_calls (function_ids m) m.forms (subst (λ s. Every (FormCallsOnly s) m.forms) ids names.calls_defined) in
     record {
       well_formed = well_formed;
       readable = record {
@@ -77,8 +108,12 @@ flat m well_formed forms names =
         specified = subst (λ s. Every (λ id. Among id s) (function_ids m)) specs (subst (Every (λ id. Among id (names_in Specification m.forms))) ids names.specified);
         defined = subst (λ s. Every (λ id. Among id s) (map spec_id (specs_of m))) ids (subst (Every (λ id. Among id (names_in Definition m.forms))) specs names.defined);
         scoped = Every-as IsRightFunction IsScoped scoped_function (functions_in m.forms) right;
+        calls_defined = more_for_functions (function_ids m) built_ins (functions_in m.forms) calls;
       };
       distinct_heads = Every-as IsRightFunction HasDistinctHeads distinct_function (functions_in m.forms) right;
+      own_calls = calls;
+      shallow = shallow;
+      in_limit = in_limit;
     }
 
 pub flat_forms : (m : Module) → IsFlatModule m → Every IsRightForm m.forms
@@ -95,6 +130,7 @@ flat_names m h =
       specified_once = subst AreDistinct specs h.readable.specs_distinct;
       specified = subst (λ s. Every (λ id. Among id s) (names_in Definition m.forms)) specs (subst (Every (λ id. Among id (map spec_id (specs_of m)))) ids h.readable.specified);
       defined = subst (λ s. Every (λ id. Among id s) (names_in Specification m.forms)) ids (subst (Every (λ id. Among id (function_ids m))) specs h.readable.defined);
+      calls_defined = subst (λ s. Every (FormCallsOnly s) m.forms) ids (calls_of_forms (function_ids m) m.forms h.own_calls);
     }
 
 -- ---- what the test of a module answers
@@ -104,11 +140,11 @@ module _ (m : Module) (forms : List TreeForm) (of_module : forms ≡ m.forms) (a
   wrong_forms fails h = absurd (true≢false (sym (says.1 (subst (Every IsRightForm) (sym of_module) (flat_forms m h))) ∙ fails))
 
   module _ (r : Result Bool NoMemory) (tells : IfOk r (λ b. IsTrue b ↔ HasMatchingNames forms)) where
-    pub sound : IsWellFormed m → a ≡ true → IfOk r (λ b. IsTrue b → IsFlatModule m)
-    sound well_formed holds = by r tells
+    pub sound : IsWellFormed m → IsShallow m → HasIntegersInLimit m → a ≡ true → IfOk r (λ b. IsTrue b → IsFlatModule m)
+    sound well_formed shallow in_limit holds = by r tells
       where
         by : (q : Result Bool NoMemory) → IfOk q (λ b. IsTrue b ↔ HasMatchingNames forms) → IfOk q (λ b. IsTrue b → IsFlatModule m)
-        by (Ok b) t = λ e. flat m well_formed (subst (Every IsRightForm) of_module (says.0 holds)) (subst HasMatchingNames of_module (t.0 e))
+        by (Ok b) t = λ e. flat m well_formed shallow in_limit (subst (Every IsRightForm) of_module (says.0 holds)) (subst HasMatchingNames of_module (t.0 e))
         by (Err e) t = t
 
     pub complete : IfOk r (λ b. IsFlatModule m → IsTrue b)

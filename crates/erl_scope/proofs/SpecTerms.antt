@@ -27,6 +27,13 @@ module _ {A B C : Type 0} where
   second-some (Some a) None g h = h
   second-some (Some a) (Some b) g h = refl
 
+  -- what the tests of both answer
+  pub both_known : (o : Option A) (p : Option B) (g : A → B → C) (a b : Bool) → (IsTrue a ↔ IsSome o) → a ≡ true → (IsTrue b ↔ IsSome p) → IsTrue b ↔ IsSome (and_then o (λ x. and_then p (λ y. Some (g x y))))
+  both_known o p g a b says holds tells = ((λ e. both-some o p g (says.0 holds) (tells.0 e)), λ h. tells.1 (second-some o p g h))
+
+  pub first_unknown : (o : Option A) (p : Option B) (g : A → B → C) (a : Bool) → (IsTrue a ↔ IsSome o) → a ≡ false → IsTrue a ↔ IsSome (and_then o (λ x. and_then p (λ y. Some (g x y))))
+  first_unknown o p g a says fails = ((λ e. absurd (true≢false (sym e ∙ fails))), λ h. says.1 (first-some o p g h))
+
 module _ {A B : Type 0} where
   pub one-some : (o : Option A) (g : A → B) → IsSome o → IsSome (and_then o (λ a. Some (g a)))
   one-some None g h = h

@@ -1,8 +1,12 @@
 -- The functions that forms name, and what is right in one function.
 use Rattle.std.specs.Prelude.{◌≡◌, List, [], ◌∷◌, ◌++◌, Option, Some, None, false, IsSome, codes}
 use Rattle.type_terms.specs.Keys.{Name}
+use Rattle.type_terms.specs.declared.term.Term.{Term}
 use Rattle.erl_tree.specs.declared.token.Node.{Node}
 use Rattle.erl_tree.specs.declared.pattern.PatternKind.{PatternKind, out-PatternKind}
+use Rattle.erl_tree.specs.declared.pattern.LiteralKind.{LiteralKind}
+use Rattle.erl_tree.specs.declared.type_expr.TypeKind.{TypeKind}
+use Rattle.erl_tree.specs.declared.expr.ExprKind.{ExprKind}
 use Rattle.erl_tree.specs.declared.expr.ItemKind.{ItemKind, out-ItemKind}
 use Rattle.erl_tree.specs.declared.expr.ClauseKind.{ClauseKind}
 use Rattle.erl_tree.specs.declared.form.Function.{Function}
@@ -10,8 +14,8 @@ use Rattle.erl_tree.specs.declared.form.TreeForm.{TreeForm}
 use Rattle.erl_tree.specs.declared.form.TreeForm.TheVariants as F
 use Rattle.erl_tree.specs.Lists.{Every, Among, AreDistinct}
 use Rattle.erl_tree.specs.Functions.{FunctionId, function_id}
-use Rattle.erl_tree.specs.Specs.{function_spec, specified_id}
-use Rattle.erl_tree.specs.Readable.{bound_by, bound_layer, used_item_layer, IsScopedClause, HasDistinctHead, is_built_in}
+use Rattle.erl_tree.specs.Specs.{and_then, end_of, range, built_in_type, function_spec, specified_id}
+use Rattle.erl_tree.specs.Readable.{bound_by, bound_layer, used_in, used_item_layer, IsScopedClause, called_in, called_item_layer, FunctionCallsOnly, HasDistinctHead, is_built_in}
 use Rattle.erl_scope.specs.declared.function_names.Role.{Role}
 use Rattle.erl_scope.specs.declared.function_names.Role.TheVariants.{Definition, Specification}
 
@@ -41,6 +45,19 @@ operations = codes "hd" ∷ codes "tl" ∷ codes "length" ∷ codes "tuple_size"
 abbrev pub exceptions : List Name
 exceptions = codes "error" ∷ codes "throw" ∷ codes "exit" ∷ []
 
+-- the term of a type with a prefix, a name and arguments
+abbrev pub use_term : Option Name → Name → List (Node TypeKind) → Option Term
+use_term None name [] = built_in_type name
+use_term _ name args = None
+
+-- the term of a range with these ends
+abbrev pub range_term : LiteralKind → LiteralKind → Option Term
+range_term low high = and_then (end_of low) (λ l. and_then (end_of high) (λ h. range l h))
+
+-- the variables that an expression uses are bound by the patterns
+abbrev pub IsScopedExpression : List (Node PatternKind) → Node ExprKind → Type 0
+IsScopedExpression patterns e = Every (λ x. Among x (bound_by patterns)) (used_in e.kind)
+
 -- the variables that an item of a body uses are bound by the patterns
 abbrev pub IsScopedItem : List (Node PatternKind) → Node ItemKind → Type 0
 IsScopedItem patterns i = Every (λ x. Among x (bound_by patterns)) (used_item_layer (out-ItemKind i.kind))
@@ -67,9 +84,23 @@ IsRightForm _ = Unit {0}
 abbrev pub IsNamedAmong : List FunctionId → Role → TreeForm → Type 0
 IsNamedAmong ids role form = Every (λ id. Among id ids) (named_by role form)
 
--- each function is defined once and specified once
+-- an expression calls only these functions
+abbrev pub ExpressionCallsOnly : List FunctionId → Node ExprKind → Type 0
+ExpressionCallsOnly ids e = Every (λ id. Among id ids) (called_in e.kind)
+
+-- an item of a body calls only these functions
+abbrev pub ItemCallsOnly : List FunctionId → Node ItemKind → Type 0
+ItemCallsOnly ids i = Every (λ id. Among id ids) (called_item_layer (out-ItemKind i.kind))
+
+-- a form calls only these functions
+abbrev pub FormCallsOnly : List FunctionId → TreeForm → Type 0
+FormCallsOnly ids (F.Function f) = FunctionCallsOnly ids f
+FormCallsOnly ids _ = Unit {0}
+
+-- each function is defined once and specified once, and each call is of one that is defined
 pub record HasMatchingNames (forms : List TreeForm) : Type 0 where
   pub defined_once : AreDistinct (names_in Definition forms)
   pub specified_once : AreDistinct (names_in Specification forms)
   pub specified : Every (λ id. Among id (names_in Specification forms)) (names_in Definition forms)
   pub defined : Every (λ id. Among id (names_in Definition forms)) (names_in Specification forms)
+  pub calls_defined : Every (FormCallsOnly (names_in Definition forms)) forms

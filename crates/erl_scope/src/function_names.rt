@@ -8,6 +8,7 @@ ghost use Rattle.function_table.specs.Table.{ids};
 ghost use Rattle.erl_scope.specs.Names as names;
 ghost use Rattle.erl_scope.specs.Names.{listed, names_in, IsNamedAmong, HasMatchingNames};
 
+use crate::calls::forms_call_only_defined;
 use erl_tree::TreeForm;
 use function_table::FunctionTable;
 use std::alloc::Global;
@@ -103,7 +104,7 @@ fn are_named_in(
     Ok(true)
 }
 
-/// Whether each function is defined once and specified once.
+/// Whether each function is defined once and specified once, and each call is of one of them.
 pub fn has_matching_names(alloc: Global, forms: &[TreeForm]) -> Result<bool, NoMemory>
     ensures { IfOk result (λ answer. IsTrue answer ↔ HasMatchingNames forms.now) }
 {
@@ -113,8 +114,13 @@ pub fn has_matching_names(alloc: Global, forms: &[TreeForm]) -> Result<bool, NoM
     let Some(specs) = table_of(alloc, forms, Role::Specification)? else {
         return Ok(false);
     };
-    if !are_named_in(alloc, &specs, forms, Role::Definition)? {
+    let specified = are_named_in(alloc, &specs, forms, Role::Definition)?;
+    if !specified {
         return Ok(false);
     }
-    are_named_in(alloc, &definitions, forms, Role::Specification)
+    let defined = are_named_in(alloc, &definitions, forms, Role::Specification)?;
+    if !defined {
+        return Ok(false);
+    }
+    forms_call_only_defined(alloc, &definitions, forms)
 }

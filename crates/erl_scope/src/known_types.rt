@@ -3,10 +3,11 @@
 ghost use Rattle.std.specs.Prelude.{◌≡◌, ◌↔◌, IsTrue, IsSome, is_some};
 ghost use Rattle.erl_tree.specs.Lists.{Every};
 ghost use Rattle.erl_tree.specs.Specs.{type_term, built_in_type, clause_arrow, function_spec};
+ghost use Rattle.erl_scope.specs.Names.{range_term, use_term};
 
 use crate::text::is_text;
-use erl_tree::{Node, SpecClause, SpecKind, TypeExpr, TypeKind};
-use type_terms::Text;
+use erl_tree::{Literal, LiteralKind, Node, SpecClause, SpecKind, TypeExpr, TypeKind};
+use type_terms::{List, Text};
 
 fn is_type_name(name: &Text) -> bool
     ensures { result ≡ is_some (built_in_type name.now) }
@@ -14,17 +15,39 @@ fn is_type_name(name: &Text) -> bool
     is_text(name, b"integer") || is_text(name, b"atom")
 }
 
+/// Whether a type is built in, without a prefix and without arguments.
+fn is_known_use(prefix: &Option<Text>, name: &Text, args: &List<TypeExpr>) -> bool
+    ensures { IsTrue result ↔ IsSome (use_term prefix.now name.now args.now) }
+{
+    prefix.is_none() && args.is_empty() && is_type_name(name)
+}
+
+/// Whether a range has ends that are integers, and the lower one is not above the upper one. An end
+/// with a minus sign is compared to one without by their sum, which keeps its sign where it
+/// saturates.
+fn is_range(low: &Literal, high: &Literal) -> bool
+    ensures { IsTrue result ↔ IsSome (range_term low.now.kind high.now.kind) }
+{
+    match (low.kind.get(), high.kind.get()) {
+        (LiteralKind::Int(low), LiteralKind::Int(high)) => low <= high,
+        (LiteralKind::NegInt(low), LiteralKind::NegInt(high)) => high <= low,
+        (LiteralKind::NegInt(low), LiteralKind::Int(high)) => low.saturating_add(*high) >= 0,
+        (LiteralKind::Int(low), LiteralKind::NegInt(high)) => low.saturating_add(*high) <= 0,
+        _ => false,
+    }
+}
+
 /// Whether a type expression has a term.
+#[tactic(auto, using(crate::proofs::OneLevel::term_laws, std::proofs::lemmas::Grind::common_steps))]
 fn is_known_type(ty: &TypeExpr) -> bool
     ensures { IsTrue result ↔ IsSome (type_term ty.now) }
 {
     match ty.kind.get() {
-        TypeKind::Atom(_) => true,
-        TypeKind::Use {
-            prefix: None,
-            name,
-            args,
-        } => args.is_empty() && is_type_name(name),
+        TypeKind::Atom(_) | TypeKind::Int(_) | TypeKind::NegInt(_) => true,
+        TypeKind::Paren(inner) => is_known_type(inner),
+        TypeKind::Or(left, right) => is_known_type(left) && is_known_type(right),
+        TypeKind::Range(low, high) => is_range(low, high),
+        TypeKind::Use { prefix, name, args } => is_known_use(prefix, name, args),
         _ => false,
     }
 }

@@ -1,7 +1,8 @@
 //! Whether names are used rightly in a flat module.
 
 ghost use Rattle.std.specs.Prelude.{IsTrue, IfOk};
-ghost use Rattle.erl_tree.specs.Spelling.{IsWellFormed};
+ghost use Rattle.erl_tree.specs.Grammar.{IsWellFormed};
+ghost use Rattle.erl_tree.specs.Limits.{IsShallow, HasIntegersInLimit};
 ghost use Rattle.erl_tree.specs.Readable.{IsFlatModule};
 
 use crate::forms::are_right_forms;
@@ -11,15 +12,18 @@ use std::alloc::Global;
 use type_terms::NoMemory;
 
 /// Whether names are used rightly in a well-formed module: each spec has known types, no function
-/// is built in or defined twice, each has one spec and each spec a function, and variables are
-/// distinct in each head and bound where they are used (Erlang Reference Manual, "Functions",
-/// "Types and Function Specifications", "Variables").
+/// is built in or defined twice, each has one spec and each spec a function, variables are distinct
+/// in each head and bound where they are used, and each call is of a function of the module (Erlang
+/// Reference Manual, "Functions", "Types and Function Specifications", "Variables", "Function
+/// Calls").
 ///
 /// # Errors
 ///
 /// `NoMemory` where memory runs out.
 pub fn is_readable(alloc: Global, module: &Module) -> Result<bool, NoMemory>
-    requires { IsWellFormed «module».now }
+    requires well_formed { IsWellFormed «module».now }
+    requires shallow { IsShallow «module».now }
+    requires in_limit { HasIntegersInLimit «module».now }
     ensures sound { IfOk result (λ answer. IsTrue answer → IsFlatModule «module».now) }
     ensures complete { IfOk result (λ answer. IsFlatModule «module».now → IsTrue answer) }
 {

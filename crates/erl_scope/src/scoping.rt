@@ -3,13 +3,12 @@
 ghost use Rattle.std.specs.Prelude.{◌≡◌, ◌↔◌, IsTrue};
 ghost use Rattle.std.specs.Option.{option_copied};
 ghost use Rattle.erl_tree.specs.declared.pattern.PatternKind.{out-PatternKind};
-ghost use Rattle.erl_tree.specs.declared.expr.ItemKind.{out-ItemKind};
 ghost use Rattle.erl_tree.specs.Lists.{Every, Among, AreDistinct};
-ghost use Rattle.erl_tree.specs.Readable.{bound_by, bound_layer, used_item_layer};
-ghost use Rattle.erl_scope.specs.Names.{listed, IsScopedItem, IsFresh, IsRightClause};
+ghost use Rattle.erl_tree.specs.Readable.{bound_by, bound_layer, used_in};
+ghost use Rattle.erl_scope.specs.Names.{listed, IsScopedExpression, IsScopedItem, IsFresh, IsRightClause};
 
 use crate::text::is_text;
-use erl_tree::{Clause, ExprKind, Item, ItemKind, Pattern, PatternKind};
+use erl_tree::{Clause, Expr, ExprKind, Item, ItemKind, Pattern, PatternKind};
 use type_terms::Text;
 
 /// The variable that a pattern binds.
@@ -24,19 +23,6 @@ fn bound_name(pattern: &Pattern) -> Option<&Text>
                 Some(name)
             }
         }
-        _ => None,
-    }
-}
-
-/// The variable that an item of a body uses.
-fn used_name(item: &Item) -> Option<&Text>
-    ensures { used_item_layer (out-ItemKind item.now.kind) ≡ listed (option_copied result) }
-{
-    match item.kind.get() {
-        ItemKind::Value(value) => match value.kind.get() {
-            ExprKind::Var(name) => Some(name),
-            _ => None,
-        },
         _ => None,
     }
 }
@@ -81,12 +67,41 @@ fn has_distinct_names(patterns: &[Pattern]) -> bool
     true
 }
 
+/// Whether the variables of an expression are bound by the patterns.
+#[cycle(expressions)]
+#[tactic(auto, using(crate::proofs::OneLevel::used_laws, std::proofs::lemmas::Grind::common_steps))]
+fn is_scoped_kind(kind: &ExprKind, patterns: &[Pattern]) -> bool
+    ensures { IsTrue result ↔ Every (λ x. Among x (bound_by patterns.now)) (used_in kind.now) }
+{
+    match kind {
+        ExprKind::Var(name) => is_bound(name, patterns),
+        ExprKind::Paren(inner) => is_scoped_kind(inner.kind.get(), patterns),
+        ExprKind::Binary(_, left, right) => {
+            is_scoped_kind(left.kind.get(), patterns) && is_scoped_kind(right.kind.get(), patterns)
+        }
+        ExprKind::Call { args, .. } => are_scoped_expressions(args.as_slice(), patterns),
+        _ => true,
+    }
+}
+
+#[cycle(expressions)]
+fn are_scoped_expressions(expressions: &[Expr], patterns: &[Pattern]) -> bool
+    ensures { IsTrue result ↔ Every (IsScopedExpression patterns.now) expressions.now }
+{
+    for expression in expressions {
+        if !is_scoped_kind(expression.kind.get(), patterns) {
+            return false;
+        }
+    }
+    true
+}
+
 fn is_scoped_item(item: &Item, patterns: &[Pattern]) -> bool
     ensures { IsTrue result ↔ IsScopedItem patterns.now item.now }
 {
-    match used_name(item) {
-        None => true,
-        Some(name) => is_bound(name, patterns),
+    match item.kind.get() {
+        ItemKind::Value(value) => is_scoped_kind(value.kind.get(), patterns),
+        _ => true,
     }
 }
 

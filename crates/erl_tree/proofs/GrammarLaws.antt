@@ -22,54 +22,6 @@ use Rattle.erl_tree.specs.Grammar.{IsEnd, IsType, one_type, union, IsSimpleType,
 
 -- ---- expressions
 
--- `+`, `-` and `*`
-abbrev pub IsArithmetic : BinaryOp → Type 0
-IsArithmetic Add = Unit {0}
-IsArithmetic Sub = Unit {0}
-IsArithmetic Mul = Unit {0}
-IsArithmetic _ = ⊥
-
--- one layer of an expression of a flat module, with well-formed parts
-abbrev pub flat_layer : E.ExprKind-F ExprKind ItemKind QualifierKind AssocKind CatchKind ClauseKind → Type 0
-flat_layer (E.Int n) = Unit {0}
-flat_layer (E.Atom a) = Unit {0}
-flat_layer (E.Var x) = Unit {0}
-flat_layer (E.Paren e) = IsExpr e
-flat_layer (E.Binary op a b) = IsArithmetic op × IsExpr a × IsExpr b
-flat_layer (E.Call None name args) = Every IsExpr args
-flat_layer _ = ⊥
-
-additive-arithmetic : (op : BinaryOp) → IsAdditive op → IsArithmetic op
-additive-arithmetic Add h = tt
-additive-arithmetic Sub h = tt
-additive-arithmetic Mul h = absurd h
-additive-arithmetic _ h = h
-
-arguments-each : (args : List (Node ExprKind)) (ms : List Place) → AreArguments args ms → Every IsExpr args
-arguments-each _ _ (no_arguments c) = tt
-arguments-each _ _ (last_argument e c h) = (h, tt)
-arguments-each _ _ (more_arguments e f es m ms h r) = (h, arguments-each (f ∷ es) ms r)
-
-operand-layer : (e : Node ExprKind) → IsOperand e → flat_layer (out-ExprKind e.kind)
-operand-layer _ (integer p n) = subst flat_layer (sym (EV.outs-Int n)) tt
-operand-layer _ (atom p a) = subst flat_layer (sym (EV.outs-Atom a)) tt
-operand-layer _ (variable p x) = subst flat_layer (sym (EV.outs-Var x)) tt
-operand-layer _ (parens o c e h) = subst flat_layer (sym (EV.outs-Paren e)) h
-operand-layer _ (call n o ms name args h) = subst flat_layer (sym (EV.outs-Call None name args)) (arguments-each args ms h)
-
-product-layer : (e : Node ExprKind) → IsProduct e → flat_layer (out-ExprKind e.kind)
-product-layer _ (one_operand e h) = operand-layer e h
-product-layer _ (product a b m h k) = subst flat_layer (sym (EV.outs-Binary Mul a b)) (tt, one_product a h, one_product b (one_operand b k))
-
--- a well-formed expression is a form of a flat module, with well-formed parts
-pub expr-layer : (e : Node ExprKind) → IsExpr e → flat_layer (out-ExprKind e.kind)
-expr-layer _ (one_product e h) = product-layer e h
-expr-layer _ (sum op a b m o h k) = subst flat_layer (sym (EV.outs-Binary op a b)) (additive-arithmetic op o, h, one_product b k)
-
--- the same, with the layer that a match finds
-pub expr-layer-at : (e : Node ExprKind) (l : E.ExprKind-F ExprKind ItemKind QualifierKind AssocKind CatchKind ClauseKind) → out-ExprKind e.kind ≡ l → IsExpr e → flat_layer l
-expr-layer-at e l q h = subst flat_layer q (expr-layer e h)
-
 -- one layer of an operand
 abbrev pub operand_layer : E.ExprKind-F ExprKind ItemKind QualifierKind AssocKind CatchKind ClauseKind → Type 0
 operand_layer (E.Int n) = Unit {0}
@@ -89,6 +41,11 @@ abbrev pub grouped_layer : E.ExprKind-F ExprKind ItemKind QualifierKind AssocKin
 grouped_layer (E.Binary Add a b) = IsExpr a × IsProduct b
 grouped_layer (E.Binary Sub a b) = IsExpr a × IsProduct b
 grouped_layer l = product_layer l
+
+arguments-each : (args : List (Node ExprKind)) (ms : List Place) → AreArguments args ms → Every IsExpr args
+arguments-each _ _ (no_arguments c) = tt
+arguments-each _ _ (last_argument e c h) = (h, tt)
+arguments-each _ _ (more_arguments e f es m ms h r) = (h, arguments-each (f ∷ es) ms r)
 
 pub operand-grouped : (e : Node ExprKind) → IsOperand e → operand_layer (out-ExprKind e.kind)
 operand-grouped _ (integer p n) = subst operand_layer (sym (EV.outs-Int n)) tt
@@ -118,6 +75,38 @@ sum-layer _ a b o h k = absurd o
 pub expr-grouped : (e : Node ExprKind) → IsExpr e → grouped_layer (out-ExprKind e.kind)
 expr-grouped _ (one_product e h) = product-expr (out-ExprKind e.kind) (product-grouped e h)
 expr-grouped _ (sum op a b m o h k) = subst grouped_layer (sym (EV.outs-Binary op a b)) (sum-layer op a b o h k)
+
+-- `+`, `-` and `*`
+abbrev pub IsArithmetic : BinaryOp → Type 0
+IsArithmetic Add = Unit {0}
+IsArithmetic Sub = Unit {0}
+IsArithmetic Mul = Unit {0}
+IsArithmetic _ = ⊥
+
+-- one layer of an expression of a flat module, with well-formed parts
+abbrev pub flat_layer : E.ExprKind-F ExprKind ItemKind QualifierKind AssocKind CatchKind ClauseKind → Type 0
+flat_layer (E.Int n) = Unit {0}
+flat_layer (E.Atom a) = Unit {0}
+flat_layer (E.Var x) = Unit {0}
+flat_layer (E.Paren e) = IsExpr e
+flat_layer (E.Binary op a b) = IsArithmetic op × IsExpr a × IsExpr b
+flat_layer (E.Call None name args) = Every IsExpr args
+flat_layer _ = ⊥
+
+grouped-flat : (l : E.ExprKind-F ExprKind ItemKind QualifierKind AssocKind CatchKind ClauseKind) → grouped_layer l → flat_layer l
+grouped-flat (E.Binary Add a b) h = (tt, h.0, one_product b h.1)
+grouped-flat (E.Binary Sub a b) h = (tt, h.0, one_product b h.1)
+grouped-flat (E.Binary Mul a b) h = (tt, one_product a h.0, one_product b (one_operand b h.1))
+grouped-flat (E.Binary op a b) h = absurd h
+grouped-flat _ h = h
+
+-- a well-formed expression is a form of a flat module, with well-formed parts
+pub expr-layer : (e : Node ExprKind) → IsExpr e → flat_layer (out-ExprKind e.kind)
+expr-layer e h = grouped-flat (out-ExprKind e.kind) (expr-grouped e h)
+
+-- the same, with the layer that a match finds
+pub expr-layer-at : (e : Node ExprKind) (l : E.ExprKind-F ExprKind ItemKind QualifierKind AssocKind CatchKind ClauseKind) → out-ExprKind e.kind ≡ l → IsExpr e → flat_layer l
+expr-layer-at e l q h = subst flat_layer q (expr-layer e h)
 
 -- ---- types
 

@@ -13,6 +13,9 @@ pub mod SpentSteps
 pub mod MoreSteps
 pub mod MembershipExamples
 pub mod TreeLaws
+pub mod EveryLaws
 pub mod GrammarLaws
+pub mod WellFormedParts
+pub mod Shallower
 pub mod TreeExamples
 pub mod RunExamples

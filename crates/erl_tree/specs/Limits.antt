@@ -1,4 +1,4 @@
--- The limits of source texts: how large an integer is, and how deep a type or an expression is nested.
+-- The limits of source texts: how large an integer is, and how deep a type or an expression is nested. In their part on flat modules, whose patterns are leaves.
 use Rattle.std.specs.Prelude.{ℕ, suc, pos, negsuc, List, [], ◌∷◌, ◌<◌, ◌≤◌, max}
 use Rattle.erl_tree.specs.Lists.{Every}
 use Rattle.erl_tree.specs.declared.token.Node.{Node}
@@ -21,25 +21,25 @@ use Rattle.erl_tree.specs.Spelling.{tokens_of}
 
 -- ---- integers
 
--- the greatest absolute value of an integer of a source text, 2 ^ 127 - 2
+-- the greatest integer of a source text, 2 ^ 127 - 2
 abbrev pub integer_limit : ℕ
 integer_limit = 170141183460469231731687303715884105726
 
--- an integer above the limit
+-- an integer above the limit, or a negative one, which no text has: a minus sign is a token of its own
 abbrev pub IsAboveLimit : Token → Type 0
 IsAboveLimit (Int (pos n)) = integer_limit < n
-IsAboveLimit (Int (negsuc n)) = integer_limit < suc n
+IsAboveLimit (Int (negsuc n)) = Unit {0}
 IsAboveLimit _ = ⊥
 
--- no integer above the limit
+-- no integer that is negative or above the limit
 abbrev pub IsInLimit : Token → Type 0
 IsInLimit t = IsAboveLimit t → ⊥
 
--- each integer of the module's text is at most the limit
+-- each integer of the module's text is within the limit
 abbrev pub HasIntegersInLimit : Module → Type 0
 HasIntegersInLimit m = Every (λ t. IsInLimit t.token) (tokens_of m)
 
--- ---- nesting: a leaf has depth 1, and each node adds a level to its parts
+-- ---- nesting: a leaf has depth 1, and each node adds a level to its parts. It is said of well-formed trees
 
 -- the greatest of some depths
 abbrev pub deepest : List (Node ℕ) → ℕ

@@ -27,7 +27,7 @@ use Rattle.erl_tree.specs.Limits.{IsShallow, HasIntegersInLimit}
 abbrev pub is_wildcard : Name → Bool
 is_wildcard x = bytes_eq x (codes "_")
 
--- a variable that isn't the wildcard
+-- what one level of a pattern binds: a variable that isn't the wildcard
 abbrev pub bound_layer : P.PatternKind-F PatternKind → List Name
 bound_layer (P.Var x) = if is_wildcard x then [] else x ∷ []
 bound_layer _ = []
@@ -114,7 +114,7 @@ same_id f g = same_name f.name g.name && nat_eq f.arity g.arity
 abbrev pub is_built_in : FunctionId → Bool
 is_built_in id = list_any (same_id id) built_ins
 
--- names are used rightly: every spec has terms; no function is defined twice or is built in; each function has one spec, and each spec a function; each variable that is used is bound; each function that is called is one of the module
+-- names are used rightly: every spec has terms; no function is defined twice or is built in; each function has one spec, and each spec a function; each variable that is used is bound; each function that is called is one of the module or built in
 pub record IsReadable (m : Module) : Type 0 where
   pub specs_read : read_specs m ≡ Some (specs_of m)
   pub functions_distinct : AreDistinct (function_ids m)
@@ -123,7 +123,7 @@ pub record IsReadable (m : Module) : Type 0 where
   pub specified : Every (λ id. Among id (map spec_id (specs_of m))) (function_ids m)
   pub defined : Every (λ id. Among id (function_ids m)) (map spec_id (specs_of m))
   pub scoped : Every IsScoped (functions_of m)
-  pub calls_defined : Every (FunctionCallsOnly (function_ids m)) (functions_of m)
+  pub calls_defined : Every (FunctionCallsOnly (function_ids m ++ built_ins)) (functions_of m)
 
 -- ---- flat modules
 
@@ -135,10 +135,11 @@ HasDistinctHead c = AreDistinct (bound_by (out-ClauseKind c.kind).patterns)
 abbrev pub HasDistinctHeads : Function → Type 0
 HasDistinctHeads f = Every HasDistinctHead f.clauses
 
--- a flat module: well formed in the part of the grammar that is written so far, readable, with distinct variables in each head, nested at most 256 levels deep, and with integers within the limit
+-- a flat module: well formed in the part of the grammar that is written so far, readable, with distinct variables in each head, calls of its own functions alone, nested at most 256 levels deep, and with integers within the limit
 pub record IsFlatModule (m : Module) : Type 0 where
   pub well_formed : IsWellFormed m
   pub readable : IsReadable m
   pub distinct_heads : Every HasDistinctHeads (functions_of m)
+  pub own_calls : Every (FunctionCallsOnly (function_ids m)) (functions_of m)
   pub shallow : IsShallow m
   pub in_limit : HasIntegersInLimit m

@@ -63,7 +63,7 @@ abbrev pub gives_found : Option Value → ℕ → Run Value
 gives_found None steps = goes_wrong steps
 gives_found (Some v) steps = gives v steps
 
--- `+`, `-` and `*` of two integers; an operand outside its operator's domain goes wrong
+-- `+`, `-` and `*` of two integers; an operand outside its operator's domain goes wrong, and so do other operators, of which nothing is said yet
 abbrev pub operate : BinaryOp → Value → Value → ℕ → Run Value
 operate Add (integer m) (integer n) steps = gives (integer (m +ℤ n)) steps
 operate Sub (integer m) (integer n) steps = gives (integer (m -ℤ n)) steps

@@ -104,7 +104,7 @@ specs_in (form ∷ forms) = specs_in forms
 abbrev pub read_specs : Module → Option (List FunSpec)
 read_specs m = all_present (map function_spec (specs_in m.forms))
 
--- the specs of a module whose specs all have terms
+-- the specs of a module, where each of them has terms, and no specs where one has none
 unfoldable pub specs_of : Module → List FunSpec
 specs_of m = unwrap_or (read_specs m) []
 

@@ -52,7 +52,7 @@ no_bindings = no_entries
 pub data Class : Type 0 where
   error exit throw : Class
 
--- how an evaluation ends: with a result, with an exception, wrong (no clause matches, an operand is outside its domain, what is no fun or has another arity is applied, a map key is neither integer nor atom, or a name is unbound), or still going when the steps were used up
+-- how an evaluation ends: with a result, with an exception, wrong (no clause matches, a match in a body fails, an operand is outside its domain, what is no fun or has another arity is applied, a map key is neither integer nor atom, a name is unbound, or a form is met of which nothing is said yet), or still going when the steps were used up
 pub data Outcome (A : Type 0) : Type 0 where
   came : A → Outcome A
   raised : Class → Value → Outcome A

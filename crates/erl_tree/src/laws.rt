@@ -194,7 +194,7 @@ pub fn the_bound_changes_nothing()
         apply_within code bound f args steps ≡ apply code f args steps }
 {}
 
-/// A run that ended ends the same with more steps, and these are left.
+/// A run that ended ends the same with more steps, and has as many more left.
 pub fn more_steps_change_no_end()
     ensures { (code : Code) (f : Value) (args : List Value) (steps more : ℕ) → (apply code f args steps).outcome ≢ going →
         ((apply code f args (steps + more)).outcome ≡ (apply code f args steps).outcome)

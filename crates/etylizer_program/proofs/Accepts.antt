@@ -22,6 +22,8 @@ holds_safe_text files file before after (V.Accepted name functions clauses) stat
       text = under.text;
       held = under.held;
       safe = under.right.right.safe;
+      flat = under.right.right.flat;
+      meets = under.right.right.meets;
       written = subst (λ (text : List ℕ). Puts before after text) (accepted_report under.right.right.safe.tree name functions clauses under.right.right.summary) written;
     }
 holds_safe_text files file before after (V.Failed name function arity clause place kind shown) status written under = absurd (omega arith)

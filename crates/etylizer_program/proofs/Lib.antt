@@ -8,3 +8,4 @@ pub mod Loaded
 pub mod Said
 pub mod Accepts
 pub mod SafeTexts
+pub mod Completes

@@ -52,6 +52,7 @@ file_begun name file loaded text limit held before after limit_is name_is text_i
 file_begun name file loaded text limit held before after limit_is name_is text_is loads (inr begins) =
     inr (record {
       verdict = begins.verdict;
+      proper = λ is. subst (λ (v : Verdict). IsTextVerdict text v) is begins.right.right;
       begun = begins.begun;
       right = λ files told. right_under files name file loaded limit begins.verdict limit_is name_is (loads files told) (subst (λ (xs : List ℕ). IsRightVerdict xs begins.verdict) text_is begins.right);
     })

@@ -4,7 +4,8 @@ use Rattle.std.specs.Prelude.{codes}
 use Rattle.type_terms.specs.Definitions.{given_definitions}
 use Rattle.erl_tree.specs.SmallText.{small_text, small_module}
 use Rattle.erl_tree.specs.Specs.{specs_of}
-use Rattle.erl_tree.specs.Spelling.{tokens_of, SpellsModule}
+use Rattle.erl_tree.specs.Grammar.{SpellsModule}
+use Rattle.erl_tree.specs.Spelling.{tokens_of}
 use Rattle.erl_tree.specs.Readable.{IsReadable}
 use Rattle.erl_tree.specs.Safety.{IsSafe, IsSafeText}
 use Rattle.erl_tree.specs.declared.form.Module.{Module}
@@ -17,7 +18,7 @@ only_small other s = one_module (tokens_of small_module) other small_module s.we
 
 small_readable : IsReadable small_module
 unfolding specs_of
-small_readable = record { specs_read = refl; functions_distinct = tt; not_built_in = tt; specs_distinct = tt; specified = tt; defined = tt; scoped = tt }
+small_readable = record { specs_read = refl; functions_distinct = tt; not_built_in = tt; specs_distinct = tt; specified = tt; defined = tt; scoped = tt; calls_defined = tt }
 
 small_is_safe : IsSafe small_module (specs_of small_module) given_definitions
 small_is_safe outside f arrow i args steps among = absurd among

@@ -7,6 +7,7 @@ use Rattle.erl_tree.specs.Functions.{functions_in}
 use Rattle.erl_tree.specs.Specs.{specs_of, specs_in}
 use Rattle.erl_tree.specs.Readable.{IsFlatModule}
 use Rattle.erl_tree.specs.Safety.{IsSafe, IsSafeText}
+use Rattle.cert_checker.specs.Failures.{MeetsConstraints}
 use Rattle.etylizer_program.specs.declared.check.Accepted.{Accepted}
 use Rattle.etylizer_program.specs.declared.check.Refused.{Refused}
 use Rattle.etylizer_program.specs.declared.report.Verdict.{Verdict}
@@ -15,16 +16,16 @@ use Rattle.etylizer_program.specs.Check.{text_limit, IsReadAs, IsAcceptedModule,
 use Rattle.etylizer_program.proofs.Flat.{clauses_counted_by_specs}
 
 -- the summary, counted by forms
-pub accepted_module : (m : Module) (name : List ℕ) (functions clauses : ℕ) → IsFlatModule m → IsSafe m (specs_of m) given_definitions
+pub accepted_module : (m : Module) (name : List ℕ) (functions clauses : ℕ) → IsFlatModule m → MeetsConstraints m → IsSafe m (specs_of m) given_definitions
     → name ≡ m.name → functions ≡ length (functions_in m.forms) → clauses ≡ length (specs_in m.forms) → IsAcceptedModule m name functions clauses
-accepted_module m name functions clauses flat safe named functions_are clauses_are =
-    record { safe = safe; summary = record { named = named; functions_counted = functions_are; clauses_counted = clauses_are ∙ sym (clauses_counted_by_specs m flat.well_formed) } }
+accepted_module m name functions clauses flat meets safe named functions_are clauses_are =
+    record { meets = meets; safe = safe; summary = record { named = named; functions_counted = functions_are; clauses_counted = clauses_are ∙ sym (clauses_counted_by_specs m flat.well_formed) } }
 
 abbrev safe_text : (text : List ℕ) (m : Module) → IsReadAs text m → IsSafe m (specs_of m) given_definitions → IsSafeText text
 safe_text text m read safe = record { tree = m; spelled = read.spelled; only = read.only; readable = read.flat.readable; safe = safe }
 
 text_accepted : (text : List ℕ) (m : Module) (name : List ℕ) (functions clauses : ℕ) → IsReadAs text m → IsAcceptedModule m name functions clauses → IsAcceptedText text name functions clauses
-text_accepted text m name functions clauses read accepted = record { safe = safe_text text m read accepted.safe; summary = accepted.summary }
+text_accepted text m name functions clauses read accepted = record { safe = safe_text text m read accepted.safe; flat = read.flat; meets = accepted.meets; summary = accepted.summary }
 
 -- a text whose module is accepted
 pub accepted_text : (text : List ℕ) (m : Module) (result : Result Accepted Refused) → IsReadAs text m

@@ -10,14 +10,15 @@ use Rattle.erl_tree.specs.declared.form.SpecKind.{SpecKind}
 use Rattle.erl_tree.specs.declared.form.Module.{Module}
 use Rattle.erl_tree.specs.Functions.{functions_of, clauses_arity}
 use Rattle.erl_tree.specs.Specs.{specs_of, specs_in}
-use Rattle.erl_tree.specs.Spelling.{SpellsModule}
+use Rattle.erl_tree.specs.Grammar.{SpellsModule}
+use Rattle.erl_tree.specs.Lists.{Every}
 use Rattle.erl_tree.specs.Readable.{IsFlatModule}
 use Rattle.erl_tree.specs.Safety.{IsSafe, IsSafeText}
-use Rattle.erl_parser.specs.Answers.{HasIntegersInLimit}
 use Rattle.cert_checker.specs.declared.refusal.Shown.{Shown}
 use Rattle.cert_checker.specs.declared.refusal.FirstRefusal.{FirstRefusal}
 use Rattle.cert_checker.specs.declared.refusal.FirstRefusal.TheVariants.{NoMemory as NoMemoryToCheck, Failed as FailedConstraint}
-use Rattle.cert_checker.specs.Failures.{ShowsFirstFailure}
+use Rattle.cert_checker.specs.Constraints.{Test, FindsFits, Holds, owed_of}
+use Rattle.cert_checker.specs.Failures.{MeetsConstraints, ShowsFirstFailure}
 use Rattle.etylizer_program.specs.declared.check.Refused.{Refused}
 use Rattle.etylizer_program.specs.declared.check.Refused.TheVariants.{NoMemory as NoMemoryForText, TooLong as TooLongText, NotBuilt as NotBuiltText, Types}
 use Rattle.etylizer_program.specs.declared.report.Verdict.{Verdict}
@@ -33,9 +34,18 @@ pub record IsReadAs (text : List ℕ) (m : Module) : Type 0 where
   pub only : (other : Module) → SpellsModule text other → other ≡ m
   pub flat : IsFlatModule m
 
--- the bytes spell no flat module all of whose integers are within the limit
+-- the bytes spell no flat module
 abbrev pub IsNotRead : List ℕ → Type 0
-IsNotRead text = (m : Module) → SpellsModule text m → IsFlatModule m → HasIntegersInLimit m → ⊥
+IsNotRead text = (m : Module) → SpellsModule text m → IsFlatModule m → ⊥
+
+-- the bytes spell a flat module all of whose constraints hold, with some test of arguments that finds what fits
+pub record IsRightText (text : List ℕ) : Type 0 where
+  pub tree : Module
+  pub spelled : SpellsModule text tree
+  pub flat : IsFlatModule tree
+  pub fits : Test
+  pub finds_fits : FindsFits fits
+  pub meets : Every Holds (owed_of fits tree)
 
 -- ---- modules that are accepted
 
@@ -58,14 +68,17 @@ pub record IsSummary (m : Module) (name : List ℕ) (functions clauses : ℕ) : 
   pub functions_counted : functions ≡ function_count m
   pub clauses_counted : clauses ≡ spec_clause_count m
 
--- the module is safe, and this is its summary
+-- the module's constraints hold, it is safe, and this is its summary
 pub record IsAcceptedModule (m : Module) (name : List ℕ) (functions clauses : ℕ) : Type 0 where
+  pub meets : MeetsConstraints m
   pub safe : IsSafe m (specs_of m) given_definitions
   pub summary : IsSummary m name functions clauses
 
--- the text is a safe text, and this is its module's summary
+-- the text is a safe text, its module is flat and its constraints hold, and this is the module's summary
 pub record IsAcceptedText (text name : List ℕ) (functions clauses : ℕ) : Type 0 where
   pub safe : IsSafeText text
+  pub flat : IsFlatModule safe.tree
+  pub meets : MeetsConstraints safe.tree
   pub summary : IsSummary safe.tree name functions clauses
 
 -- ---- modules that are refused

@@ -1,13 +1,15 @@
 -- What the program claims: of a text that it accepts, and of its output at each status.
-use Rattle.std.specs.Prelude.{◌≡◌, ◌⊎◌, ℕ, List, [], ◌∷◌, Option, Some, None, codes}
+use Rattle.std.specs.Prelude.{◌≡◌, ◌≢◌, ◌⊎◌, ◌≤◌, ℕ, List, [], ◌∷◌, length, Option, Some, None, codes}
 use Rattle.std.specs.Option.{ForSome}
+use Rattle.erl_tree.specs.Readable.{IsFlatModule}
 use Rattle.erl_tree.specs.Safety.{IsSafeText}
+use Rattle.cert_checker.specs.Failures.{MeetsConstraints}
 use Rattle.etylizer_program.specs.declared.report.Verdict.{Verdict}
 use Rattle.etylizer_program.specs.declared.report.Verdict.TheVariants.{Accepted, Failed, TooLong, NotBuilt, Usage}
 use Rattle.etylizer_program.specs.Outside.{Holdings, IsHeld, Puts, PutsBeginning}
 use Rattle.etylizer_program.specs.Commands.{command_of}
 use Rattle.etylizer_program.specs.Report.{report_text}
-use Rattle.etylizer_program.specs.Check.{function_count, spec_clause_count, IsRightVerdict}
+use Rattle.etylizer_program.specs.Check.{text_limit, function_count, spec_clause_count, IsNotRead, IsRightText, IsRightVerdict}
 
 -- the words are `check FILE`
 abbrev pub IsCheckOf : List (List ℕ) → (file : List ℕ) → Type 0
@@ -15,11 +17,13 @@ IsCheckOf words file = words ≡ codes "check" ∷ file ∷ []
 
 -- ---- an accepted text
 
--- what is held under the file is a safe text, and the report has its module's name and the numbers of its functions and spec clauses
+-- what is held under the file is a safe text, its module is flat and its constraints hold, and the report has the module's name and the numbers of its functions and spec clauses
 pub record HoldsSafeText (files : Holdings) (file : List ℕ) (before after : Option (List ℕ)) : Type 0 where
   pub text : List ℕ
   pub held : files file ≡ Some text
   pub safe : IsSafeText text
+  pub flat : IsFlatModule safe.tree
+  pub meets : MeetsConstraints safe.tree
   pub written : Puts before after (report_text (Accepted safe.tree.name (function_count safe.tree) (spec_clause_count safe.tree)))
 
 -- the words are `check FILE`, and where the files tell what they hold, FILE holds a safe text
@@ -72,9 +76,10 @@ pub record BeginsTextReport (text : List ℕ) (before after : Option (List ℕ))
   pub begun : PutsBeginning before after (report_text verdict)
   pub right : IsRightVerdict text verdict
 
--- a beginning of the report of a verdict was written, and where the files tell what they hold, the verdict is right of the file
+-- a beginning of the report of a verdict that isn't the usage was written, and where the files tell what they hold, the verdict is right of the file
 pub record BeginsFileReport (file : List ℕ) (held : Option Holdings) (before after : Option (List ℕ)) : Type 0 where
   pub verdict : Verdict
+  pub proper : verdict ≢ Usage
   pub begun : PutsBeginning before after (report_text verdict)
   pub right : ForSome held (λ files. IsVerdictUnder files file verdict)
 
@@ -96,3 +101,26 @@ BreaksOff words held before after = (after ≡ before) ⊎ (BeginsUsage words be
 -- the file that the words name is held
 abbrev pub HoldsNamedFile : Option Holdings → (words : List (List ℕ)) → Type 0
 HoldsNamedFile held words = (file : List ℕ) → IsCheckOf words file → IsHeld held file
+
+-- ---- what the words name
+
+-- the words are `check FILE`, the files tell what they hold, and what is held under FILE is this text, within the limit of texts
+pub record NamesText (words : List (List ℕ)) (held : Option Holdings) (text : List ℕ) : Type 0 where
+  pub file : List ℕ
+  pub said : IsCheckOf words file
+  pub files : Holdings
+  pub told : held ≡ Some files
+  pub holds : files file ≡ Some text
+  pub short : length text ≤ text_limit
+
+-- the words name a text that spells no flat module
+pub record NamesNoModule (words : List (List ℕ)) (held : Option Holdings) : Type 0 where
+  pub text : List ℕ
+  pub named : NamesText words held text
+  pub not_read : IsNotRead text
+
+-- the words name a text that spells a flat module all of whose constraints hold
+pub record NamesRightModule (words : List (List ℕ)) (held : Option Holdings) : Type 0 where
+  pub text : List ℕ
+  pub named : NamesText words held text
+  pub right : IsRightText text

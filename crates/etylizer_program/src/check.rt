@@ -1,6 +1,6 @@
-ghost use Rattle.std.specs.Prelude.{◌≡◌, ◌<◌, ◌↔◌, length, IfOk, IfErr, IsErrOf};
+ghost use Rattle.std.specs.Prelude.{◌≡◌, ◌⊎◌, ◌<◌, ◌≤◌, ◌↔◌, length, IfOk, IfErr, IsOk, IsErrOf};
 ghost use Rattle.erl_tree.specs.Readable.{IsFlatModule};
-ghost use Rattle.etylizer_program.specs.Check.{text_limit, IsReadAs, IsAcceptedModule, IsAcceptedText, IsModuleRefusal, IsTextRefusal};
+ghost use Rattle.etylizer_program.specs.Check.{text_limit, IsNotRead, IsRightText, IsReadAs, IsAcceptedModule, IsAcceptedText, IsModuleRefusal, IsTextRefusal};
 
 use crate::count::{count_functions, count_specs};
 use cert_checker::{FirstRefusal, check_first};
@@ -53,6 +53,8 @@ pub fn check_text(alloc: Global, text: &[u8]) -> Result<Accepted, Refused>
     ensures safe { IfOk result (λ a. IsAcceptedText text.now a.name a.functions a.clauses) }
     ensures refused { IfErr result (IsTextRefusal text.now) }
     ensures too_long { IsErrOf result Refused.TooLong ↔ (text_limit < length text.now) }
+    ensures complete { IsRightText text.now → length text.now ≤ text_limit → IsOk result ⊎ IsErrOf result Refused.NoMemory }
+    ensures not_built { IsNotRead text.now → length text.now ≤ text_limit → IsErrOf result Refused.NotBuilt ⊎ IsErrOf result Refused.NoMemory }
 {
     let tree = read_text(alloc, text)?;
     check_module(alloc, &tree)

@@ -55,8 +55,7 @@ fn judge_failure(
     match read_first(alloc, text) {
         Ok(tree) => failed_verdict(alloc, &tree, number, place, kind, shown),
         Err(FirstFault::NoMemory) => Err(NoMemory),
-        // It doesn't come after a first reading, and would be right of the text.
-        Err(FirstFault::NotBuilt) => Ok(Verdict::NotBuilt),
+        Err(FirstFault::NotBuilt) => unreachable!(),
     }
 }
 

@@ -2,7 +2,7 @@ ghost use Rattle.std.specs.Prelude.{◌≡◌, ◌≢◌, ◌⊎◌, ◌↔◌, 
 ghost use Rattle.etylizer_program.specs.Outside.{IsHeld, Rose, Puts, PutsBeginning};
 ghost use Rattle.etylizer_program.specs.Commands.{command_of};
 ghost use Rattle.etylizer_program.specs.Report.{report_text};
-ghost use Rattle.etylizer_program.specs.Tool.{AcceptsSafeText, Judges, JudgesFile, JudgesText, BreaksOff, BeginsFileReport, BeginsTextReport, HoldsNamedFile, verdict_status};
+ghost use Rattle.etylizer_program.specs.Tool.{AcceptsSafeText, Judges, JudgesFile, JudgesText, BreaksOff, BeginsFileReport, BeginsTextReport, HoldsNamedFile, NamesRightModule, NamesNoModule, verdict_status};
 
 use crate::check::TEXT_LIMIT;
 use crate::command::{Command, command_of};
@@ -47,6 +47,12 @@ pub fn run_tool<F: Files, O: Sink>(
 
     // A report tells the truth about the file.
     ensures judged { result < 4 → result ≢ 2 → Judges result (map string_bytes words.now.items) (F.held files.old) (O.written out.old) (O.written out.new) }
+
+    // A text within the limit that spells a flat module whose constraints all hold is accepted, and
+    // one that spells no flat module gets "not built yet", where the files tell what they hold, and
+    // unless the files or the sink fail or memory runs out.
+    ensures complete { NamesRightModule (map string_bytes words.now.items) (F.held files.old) → (Rose (F.faults files.old) (F.faults files.new) → ⊥) → (Rose (O.faults out.old) (O.faults out.new) → ⊥) → (result ≡ 0) ⊎ (result ≡ 6) }
+    ensures not_built { NamesNoModule (map string_bytes words.now.items) (F.held files.old) → (Rose (F.faults files.old) (F.faults files.new) → ⊥) → (Rose (O.faults out.old) (O.faults out.new) → ⊥) → ((result ≡ 3) × Puts (O.written out.old) (O.written out.new) (report_text Verdict.NotBuilt)) ⊎ (result ≡ 6) }
 
     // Words that are no command, and no others, are answered with the usage.
     ensures usage { result ≡ 2 → (command_of (map string_bytes words.now.items) ≡ None) × Puts (O.written out.old) (O.written out.new) (report_text Verdict.Usage) }

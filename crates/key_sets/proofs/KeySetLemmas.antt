@@ -1,9 +1,6 @@
 -- What a set's parts say of the whole.
-use Rattle.std.proofs.Common.{◌≡◌, ◌∙◌, sym, ap, refl, subst, ℤ, ◌<ℤ◌, ◌≤ℤ◌, List, Bool, true, false, arith}
-use Rattle.std.specs.List.{list_any}
+use Rattle.std.proofs.Common.{◌≡◌, sym, refl, subst, ℤ, ◌≤ℤ◌, List, Bool, true, arith}
 use Rattle.std.specs.List.Sorted.{IsPermutation}
-use Rattle.std.specs.Option.{MatchOption}
-use Rattle.std.specs.Prelude.{Option, Some, None}
 use Rattle.std.proofs.lemmas.Int.{ints, clamps}
 use Rattle.std.proofs.lemmas.List.Sorted.{list_any-IsPermutation}
 use Rattle.type_terms.specs.declared.term.Key.{Key}

@@ -1,3 +1,4 @@
 pub mod Sweeps
 pub mod Listed
 pub mod KeySetLemmas
+pub mod CallerLemmas

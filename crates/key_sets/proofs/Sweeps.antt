@@ -1,5 +1,5 @@
 -- A walk over the ranges of two sides.
-use Rattle.std.proofs.Common.{◌≡◌, refl, sym, ◌∙◌, ap, subst, ℕ, ℤ, pos, ◌+◌, ◌<◌, ◌≤◌, ◌<ℤ◌, ◌≤ℤ◌, ◌+ℤ◌, ◌⊎◌, inl, inr, List, Bool, true, false, length, arith, zero, suc, ◌-◌, get_or, add-zero, is_lt, int_cmp}
+use Rattle.std.proofs.Common.{◌≡◌, refl, sym, ◌∙◌, subst, ℕ, ℤ, pos, ◌+◌, ◌<◌, ◌≤◌, ◌<ℤ◌, ◌≤ℤ◌, ◌⊎◌, inl, inr, List, Bool, true, false, length, arith, zero, suc, ◌-◌, get_or, add-zero, is_lt, int_cmp}
 use Rattle.std.specs.Int.{int_max}
 use Rattle.std.specs.List.{Any}
 use Rattle.std.specs.Ordering.{ordering_then}
@@ -10,7 +10,7 @@ use Rattle.std.proofs.lemmas.List.{get_or_default}
 use Rattle.std.proofs.lemmas.List.Folds.{list_any_at, Any-from_list_any}
 use Rattle.type_terms.proofs.IntegerOrder.{le_int-is, less_int-is}
 use Rattle.key_sets.specs.declared.range.Range.{Range}
-use Rattle.key_sets.specs.Ranges.{spans, spanned, range_at, first_integer, nearest, IsAscending, IsPassed, IsCovered, IsGap}
+use Rattle.key_sets.specs.Ranges.{spans, spanned, range_at, first_integer, IsAscending, IsPassed, IsCovered}
 
 no_range : Range
 no_range = record { after = pos 0; upto = pos 0 }
@@ -95,26 +95,25 @@ module _ (left right : List Range) (left_up : IsAscending left) (right_up : IsAs
   judged_more i seen from next done is covered judged n big l there =
       by_lt_z seen n
       (λ further. by_lt_z from n
-        (λ beyond. covered n beyond l)
-        (λ between. absurd (nothing_between i seen n done further (omega (arith, ints, clamps)) (spanned-in left n there))))
+      (λ beyond. covered n beyond l)
+      (λ between. absurd (nothing_between i seen n done further (omega (arith, ints, clamps)) (spanned-in left n there))))
       (λ before. judged n big before there)
 
-  -- where the walk over the right side stops before the end of a range of the left side, the next integer is outside
-  pub next-in : (i : ℕ) (seen from next n : ℤ) → i < length left → from ≡ int_max seen (range_at left i).after → from ≤ℤ next → next <ℤ (range_at left i).upto → n ≡ next +ℤ pos 1 → spanned left n ≡ true
-  next-in i seen from next n l is up short e = spanned-at left i n l (omega (arith, ints, clamps)) (omega (arith, ints))
+  -- where the walk over the right side stops before the end of a range of the left side, the integers of the gap are outside
+  pub gap-in : (i : ℕ) (seen from next n : ℤ) → i < length left → from ≡ int_max seen (range_at left i).after → from ≤ℤ next → next <ℤ n → n ≤ℤ (range_at left i).upto → spanned left n ≡ true
+  gap-in i seen from next n l is up above below = spanned-at left i n l (omega (arith, ints, clamps)) below
 
-  pub next-not_in : (at : ℕ) (next end n : ℤ) → IsPassed right 0 at next → next <ℤ end → (end ≤ℤ next) ⊎ IsGap right at next → n ≡ next +ℤ pos 1 → spanned right n ≡ false
-  next-not_in at next end n passed short stopped e = spanned-not right n (λ there. by there (below_or_from there.place at) stopped)
+  pub gap-not_in : (at : ℕ) (next n : ℤ) → IsPassed right 0 at next → next <ℤ n → (at < length right → n ≤ℤ (range_at right at).after) → spanned right n ≡ false
+  gap-not_in at next n passed above before = spanned-not right n (λ there. by there (below_or_from there.place at))
     where
       below_or_from : (k at : ℕ) → (k < at) ⊎ (at ≤ k)
       below_or_from k at = grind arith
 
-      by : (there : IsIn right n) → (there.place < at) ⊎ (at ≤ there.place) → (end ≤ℤ next) ⊎ IsGap right at next → ⊥
-      by there (inl before) s = let p : (range_at right there.place).upto ≤ℤ next = passed there.place (omega arith) before in omega (arith, ints)
-      by there (inr from) (inl over) = omega (arith, ints)
-      by there (inr from) (inr gap) =
+      by : (there : IsIn right n) → (there.place < at) ⊎ (at ≤ there.place) → ⊥
+      by there (inl passed_by) = let p : (range_at right there.place).upto ≤ℤ next = passed there.place (omega arith) passed_by in omega (arith, ints)
+      by there (inr from) =
           let l : there.place < length right = there.within in
-          let g : next <ℤ (range_at right at).after = gap (omega arith) in
+          let g : n ≤ℤ (range_at right at).after = before (omega arith) in
           let p : (range_at right at).after ≤ℤ (range_at right there.place).after = ascends right right_up at there.place from there.within in
           omega (arith, ints)
 

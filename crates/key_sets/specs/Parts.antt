@@ -1,5 +1,5 @@
 -- Parts of sets of keys, and which keys they have.
-use Rattle.std.specs.Prelude.{ℕ, ℤ, ◌≤◌, ◌-◌, ◌^◌, List, Bool, true, false, ◌&&◌, Option, Some, None}
+use Rattle.std.specs.Prelude.{ℤ, ◌≤◌, ◌-◌, ◌^◌, List, Bool, true, false, ◌&&◌, Option, Some, None}
 use Rattle.std.specs.List.{list_any, All}
 use Rattle.std.specs.Int.RustNames.{unsigned_abs}
 use Rattle.type_terms.specs.declared.term.Key.{Key}
@@ -20,7 +20,7 @@ part_has _ _ = false
 abbrev pub parts_have : List Part → Key → Bool
 parts_have parts key = list_any (λ part. part_has part key) parts
 
--- an end is open, or at most so far from 0
+-- an end is open, or at most 2^127 - 2 away from 0
 abbrev pub IsLimitedEnd : Option ℤ → Type 0
 IsLimitedEnd None = Unit {0}
 IsLimitedEnd (Some n) = unsigned_abs n ≤ 2 ^ 127 - 2
@@ -30,6 +30,6 @@ abbrev pub IsLimited : Part → Type 0
 IsLimited (Integers low high) = IsLimitedEnd low × IsLimitedEnd high
 IsLimited _ = Unit {0}
 
--- each part is so
+-- so are the ends of each part
 abbrev pub AreLimited : List Part → Type 0
 AreLimited parts = All IsLimited parts

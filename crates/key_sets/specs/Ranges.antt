@@ -1,5 +1,5 @@
 -- Ranges of integers, and which integers they have.
-use Rattle.std.specs.Prelude.{ℕ, ℤ, pos, negsuc, ◌≡◌, ◌≤◌, ◌<◌, ◌-◌, ◌^◌, ◌≤ℤ◌, ◌<ℤ◌, List, Bool, true, false, ◌&&◌, length, slice_index_or}
+use Rattle.std.specs.Prelude.{ℕ, ℤ, pos, negsuc, ◌≡◌, ◌≤◌, ◌<◌, ◌-◌, ◌^◌, ◌≤ℤ◌, ◌<ℤ◌, List, Bool, true, ◌&&◌, length, slice_index_or}
 use Rattle.std.specs.List.{list_any}
 use Rattle.std.specs.Int.{int_max, int_min}
 use Rattle.type_terms.specs.Keys.{less_int}

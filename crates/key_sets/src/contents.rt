@@ -30,6 +30,10 @@ impl Contents {
     }
 
     /// Adds what a part has.
+    ///
+    /// # Errors
+    ///
+    /// `NoMemory` where memory runs out.
     fn add(&mut self, alloc: Global, part: &Part) -> Result<(), NoMemory>
         requires limit { IsLimited part.now }
         ensures { OnOk result ((key : Key) → contents_have self.new key ≡ (contents_have self.old key || part_has part.now key)) }
@@ -47,6 +51,10 @@ impl Contents {
     }
 
     /// What the parts have.
+    ///
+    /// # Errors
+    ///
+    /// `NoMemory` where memory runs out.
     pub fn of(alloc: Global, parts: &[Part]) -> Result<Contents, NoMemory>
         requires limit { AreLimited parts.now }
         ensures { IfOk result (λ contents. (key : Key) → contents_have contents key ≡ parts_have parts.now key) }

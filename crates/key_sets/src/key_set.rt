@@ -1,5 +1,4 @@
 ghost use Rattle.key_sets.specs.Ranges.{IsAscending};
-ghost use Rattle.std.proofs.Props.{props};
 
 use crate::contents::Contents;
 use crate::names::atom_outside;
@@ -12,16 +11,17 @@ use type_terms::{Key, List, NoMemory};
 #[derive(Drop)]
 pub struct KeySet {
     contents: Contents,
-    ghost ascending: { IsAscending contents.ranges.items } by { Prim.hlevel props },
+    ghost ascending: { IsAscending contents.ranges.items },
 }
 
 impl KeySet {
-    ghost use Rattle.std.specs.Prelude.{◌≡◌, true, false, IfOk, MatchOption};
+    ghost use Rattle.std.specs.Prelude.{◌≡◌, true, IfOk, MatchOption};
     ghost use Rattle.type_terms.specs.declared.term.Key.{Key};
     ghost use Rattle.key_sets.specs.Parts.{AreLimited, parts_have};
-    ghost use Rattle.key_sets.specs.KeySets.{has};
+    ghost use Rattle.key_sets.specs.KeySets.{has, IsSubset, IsOutside};
 
-    /// The union of the parts.
+    /// The union of the parts, which may overlap and come in any order. It sorts them, so that the
+    /// other calls go over them once.
     ///
     /// # Errors
     ///
@@ -41,7 +41,7 @@ impl KeySet {
     ///
     /// `NoMemory` where memory runs out.
     pub fn first_outside(&self, alloc: Global, other: &KeySet) -> Result<Option<Key>, NoMemory>
-        ensures { IfOk result (λ found. MatchOption found ((key : Key) → has self.now key ≡ true → has other.now key ≡ true) (λ key. (has self.now key ≡ true) × (has other.now key ≡ false))) }
+        ensures { IfOk result (λ found. MatchOption found (IsSubset self.now other.now) (IsOutside self.now other.now)) }
     {
         let left = self.contents.ranges.as_slice();
         let right = other.contents.ranges.as_slice();
@@ -54,7 +54,7 @@ impl KeySet {
         }
     }
 
-    /// Some element.
+    /// Some element of this set, which has one.
     ///
     /// # Errors
     ///

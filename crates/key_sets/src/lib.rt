@@ -2,6 +2,7 @@
 #![tactic(auto)]
 
 mod contents;
+pub mod examples;
 mod key_set;
 mod names;
 mod part;
@@ -10,3 +11,6 @@ mod sweep;
 
 pub use key_set::KeySet;
 pub use part::Part;
+
+#[cfg(test)]
+mod tests;

@@ -7,6 +7,10 @@ use std::alloc::Global;
 use type_terms::{NoMemory, Text};
 
 /// A name that isn't among some names: a longest one of them, and one letter more.
+///
+/// # Errors
+///
+/// `NoMemory` where memory runs out.
 fn unlisted(alloc: Global, names: &[Vec<u8>]) -> Result<Text, NoMemory>
     ensures { IfOk result (λ name. listed names.now name ≡ false) }
 {
@@ -22,7 +26,11 @@ fn unlisted(alloc: Global, names: &[Vec<u8>]) -> Result<Text, NoMemory>
     Ok(name)
 }
 
-/// An atom that is in the left contents and not in the right ones.
+/// An atom that is in the left contents and not in the right ones; none where each is.
+///
+/// # Errors
+///
+/// `NoMemory` where memory runs out.
 pub fn atom_outside(
     alloc: Global,
     left: &Contents,

@@ -1,5 +1,5 @@
-ghost use Rattle.std.specs.Prelude.{ℕ, ℤ, ◌≡◌, ◌<◌, ◌≤◌, ◌<ℤ◌, ◌≤ℤ◌, ◌⊎◌, length, true, false, MatchOption};
-ghost use Rattle.key_sets.specs.Ranges.{IsAscending, IsPassed, IsCovered, IsGap, spanned, nearest, first_integer};
+ghost use Rattle.std.specs.Prelude.{ℕ, ℤ, ◌≡◌, ◌<◌, ◌≤◌, ◌<ℤ◌, ◌≤ℤ◌, length, true, false, MatchOption};
+ghost use Rattle.key_sets.specs.Ranges.{IsAscending, IsPassed, IsCovered, IsGap, range_at, spanned, nearest, first_integer};
 
 use crate::range::Range;
 
@@ -10,7 +10,8 @@ struct Reached {
     seen: i128,
 }
 
-/// Walks from one place over the ranges that go on from there, until an end is reached.
+/// Walks over the ranges from a place on, as long as each begins at what was seen or before it, until
+/// an end is reached. Gives how far it came.
 fn walked(ranges: &[Range], from: Reached, end: i128) -> Reached
     requires { from.at ≤ length ranges.now }
     ensures further { from.at ≤ result.at }
@@ -18,7 +19,7 @@ fn walked(ranges: &[Range], from: Reached, end: i128) -> Reached
     ensures up { from.seen ≤ℤ result.seen }
     ensures passed { IsPassed ranges.now from.at result.at result.seen }
     ensures covered { IsCovered ranges.now from.seen result.seen }
-    ensures stopped { (end ≤ℤ result.seen) ⊎ IsGap ranges.now result.at result.seen }
+    ensures stopped { result.seen <ℤ end → IsGap ranges.now result.at result.seen }
 {
     let mut at = from.at;
     let mut seen = from.seen;
@@ -29,8 +30,25 @@ fn walked(ranges: &[Range], from: Reached, end: i128) -> Reached
     Reached { at, seen }
 }
 
-/// An integer that is in a range of the left side and in none of the right side. The ranges of each
-/// side ascend by their lower ends.
+/// The last integer of the gap behind what was seen: the next range's lower end, or the end that is
+/// given, where that comes first.
+fn gap_end(ranges: &[Range], reached: Reached, end: i128) -> i128
+    requires before_end { reached.seen <ℤ end }
+    requires gap { IsGap ranges.now reached.at reached.seen }
+    ensures beyond { reached.seen <ℤ result }
+    ensures within { result ≤ℤ end }
+    ensures before_next { reached.at < length ranges.now → result ≤ℤ (range_at ranges.now reached.at).after }
+{
+    if reached.at < ranges.len() {
+        ranges[reached.at].after.min(end)
+    } else {
+        end
+    }
+}
+
+/// An integer that is in a range of the left side and in none of the right side: the one nearest to 0
+/// in the first gap. None where there is none. The ranges of each side ascend by their lower ends, and
+/// each is looked at once.
 pub fn integer_outside(left: &[Range], right: &[Range]) -> Option<i128>
     requires left_ascends { IsAscending left.now }
     requires right_ascends { IsAscending right.now }
@@ -47,7 +65,8 @@ pub fn integer_outside(left: &[Range], right: &[Range]) -> Option<i128>
         };
         reached = walked(right, from, range.upto);
         if reached.seen < range.upto {
-            return Some(reached.seen + 1);
+            let last = gap_end(right, reached, range.upto);
+            return Some(0i128.clamp(reached.seen + 1, last));
         }
     }
     None

@@ -1,6 +1,6 @@
 use Rattle.std.proofs.Common.{◌≤◌, ◌+◌, length}
 use Rattle.erl_tree.specs.Lists.{Every}
-use Rattle.erl_lexer.specs.Plain.{IsInLimit}
+use Rattle.erl_tree.specs.Limits.{IsInLimit}
 use Rattle.erl_lexer.proofs.Steps.{IsSoFar}
 use Rattle.erl_lexer.proofs.lex.lex_plain.Given as goal
 

@@ -1,6 +1,6 @@
 use Rattle.std.proofs.Common.{◌≡◌, ◌≤◌, drop}
 use Rattle.erl_tree.specs.Lexis.{decimal}
-use Rattle.erl_lexer.specs.Plain.{integer_limit}
+use Rattle.erl_tree.specs.Limits.{integer_limit}
 use Rattle.erl_lexer.proofs.scan.decimal.Given as goal
 
 abbrev pub invariant-loop-c : goal.invariant-loop-c

@@ -1,4 +1,4 @@
-use Rattle.std.proofs.Common.{◌≡◌, ◌≤◌, ◌++◌, ◌∷◌, [], ◌∙◌, ap, sym, subst, arith, length, List, ℕ, Bor}
+use Rattle.std.proofs.Common.{◌≡◌, ◌≤◌, ◌++◌, ◌∷◌, [], ◌∙◌, ap, subst, arith, length, List, ℕ, Bor}
 use Rattle.key_sets.proofs.Listed.{longest_more, longer-not_listed}
 use Rattle.key_sets.proofs.names.unlisted.Goals as goal
 use Rattle.key_sets.proofs.names.unlisted.Goals.{then-name-longest, else-name-longest}
@@ -7,11 +7,11 @@ as_long : (c : goal.Joined-name-longest) → (length c.loop-name.longest.now ≤
 as_long c =
     elim c.if-name-longest.branch [
       | then-name-longest w ↦
-        let e : length c.if-name-longest.longest.now ≡ length c.as_slice-name.result.now = ap (λ (b : Bor (List ℕ)). length b.now) w.longest-is in
-        (omega arith, omega arith)
+          let e : length c.if-name-longest.longest.now ≡ length c.as_slice-name.result.now = ap (λ (b : Bor (List ℕ)). length b.now) w.longest-is in
+          (omega arith, omega arith)
       | else-name-longest w ↦
-        let e : length c.if-name-longest.longest.now ≡ length c.loop-name.longest.now = ap (λ (b : Bor (List ℕ)). length b.now) w.longest-is in
-        (omega arith, omega arith)
+          let e : length c.if-name-longest.longest.now ≡ length c.loop-name.longest.now = ap (λ (b : Bor (List ℕ)). length b.now) w.longest-is in
+          (omega arith, omega arith)
     ]
 
 pub loop-name-preserved : goal.loop-name-preserved

@@ -1,17 +1,23 @@
-use Rattle.std.proofs.Common.{ℤ, ◌≤ℤ◌, pos, arith}
+use Rattle.std.proofs.Common.{◌≤ℤ◌, arith, to_z, of_z}
+use mir.Syntax.{w128}
 use Rattle.std.proofs.lemmas.Int.{ints, clamps}
 use Rattle.key_sets.specs.Ranges.{range_at}
-use Rattle.key_sets.proofs.Sweeps.{passed_more, passed_join, judged_more, judged_all, next-in, next-not_in}
+use Rattle.key_sets.proofs.Sweeps.{passed_more, passed_join, judged_more, judged_all, gap-in, gap-not_in}
 use Rattle.key_sets.proofs.sweep.integer_outside.Goals as goal
+
+at_most_next : (c : goal.After-clamp) → c.gap_end-last.result ≤ℤ (range_at c.args.right.now c.walked-reached.result.at).after → to_z w128 (of_z w128 c.clamp.result) ≤ℤ (range_at c.args.right.now c.walked-reached.result.at).after
+at_most_next c l = omega (arith, ints)
 
 pub returns-then-reached-range : goal.returns-then-reached-range
 returns-then-reached-range c = (
   omega (arith, ints, clamps),
-  next-in c.args.left.now c.args.right.now c.requires.left_ascends c.requires.right_ascends
-    c.loop-range.range-index c.loop-range.reached.seen c.max.result c.walked-reached.result.seen _
-    (omega arith) (omega (arith, ints, clamps)) (omega (arith, ints)) (omega (arith, ints)) (omega (arith, ints)),
-  next-not_in c.args.left.now c.args.right.now c.requires.left_ascends c.requires.right_ascends
-    c.walked-reached.result.at c.walked-reached.result.seen _ _ (passed_join c.args.right.now c.loop-range.reached.at c.walked-reached.result.at c.loop-range.reached.seen c.walked-reached.result.seen c.loop-range.invariant.passed (omega (arith, ints)) c.walked-reached.ensures.passed) (omega (arith, ints)) c.walked-reached.ensures.stopped (omega (arith, ints)),
+  gap-in c.args.left.now c.args.right.now c.requires.left_ascends c.requires.right_ascends
+      c.loop-range.range-index c.loop-range.reached.seen c.max.result c.walked-reached.result.seen _
+      (omega arith) (omega (arith, ints, clamps)) (omega (arith, ints)) (omega (arith, ints)) (omega (arith, ints)),
+  gap-not_in c.args.left.now c.args.right.now c.requires.left_ascends c.requires.right_ascends
+      c.walked-reached.result.at c.walked-reached.result.seen _
+      (passed_join c.args.right.now c.loop-range.reached.at c.walked-reached.result.at c.loop-range.reached.seen c.walked-reached.result.seen c.loop-range.invariant.passed (omega (arith, ints)) c.walked-reached.ensures.passed)
+      (omega (arith, ints)) (λ l. at_most_next c (c.gap_end-last.ensures.before_next l)),
 )
 
 pub loop-range-preserved : goal.loop-range-preserved

@@ -1,4 +1,4 @@
-use Rattle.std.proofs.Common.{◌≡◌, length, ℕ, ℤ, ◌≤◌, ◌≤ℤ◌, true}
+use Rattle.std.proofs.Common.{◌≡◌, length, ℤ, ◌≤◌, ◌≤ℤ◌, true}
 use Rattle.key_sets.specs.Ranges.{IsPassed, spanned, first_integer}
 use Rattle.key_sets.proofs.sweep.integer_outside.Given as goal
 

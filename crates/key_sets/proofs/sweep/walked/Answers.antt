@@ -1,6 +1,5 @@
-use Rattle.std.proofs.Common.{ℤ, ◌≤ℤ◌, pos, arith}
+use Rattle.std.proofs.Common.{arith}
 use Rattle.std.proofs.lemmas.Int.{ints, clamps}
-use Rattle.key_sets.specs.Ranges.{range_at}
 use Rattle.key_sets.proofs.Sweeps.{passed_more, covered_more}
 use Rattle.key_sets.proofs.sweep.walked.Goals as goal
 

@@ -1,4 +1,4 @@
-use Rattle.std.proofs.Common.{length, ◌-◌, ℕ, ◌≤◌, ◌≤ℤ◌}
+use Rattle.std.proofs.Common.{length, ◌-◌, ◌≤◌, ◌≤ℤ◌}
 use Rattle.key_sets.specs.Ranges.{IsPassed, IsCovered}
 use Rattle.key_sets.proofs.sweep.walked.Given as goal
 
