@@ -1,5 +1,5 @@
 -- The integers of a module's types and expressions are in the limit, since those of its tokens are.
-use Rattle.std.proofs.Common.{◌≡◌, refl, ◌∙◌, subst, ℕ, suc, ◌<◌, List, [], ◌∷◌, map, length, arith}
+use Rattle.std.proofs.Common.{◌≡◌, refl, ◌∙◌, subst, ℕ, ◌<◌, List, [], ◌∷◌, map, length, arith}
 use Rattle.std.specs.Prelude.{Bool, true, false, ℤ, pos, negsuc, nat_le, Some, codes}
 use Rattle.std.proofs.lemmas.Bool.{and_from}
 use Rattle.erl_tree.specs.declared.token.Place.{Place}
