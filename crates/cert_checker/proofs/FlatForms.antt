@@ -10,7 +10,8 @@ use Rattle.erl_tree.specs.declared.type_expr.TypeKind.{TypeKind, out-TypeKind, r
 use Rattle.erl_tree.specs.declared.type_expr.MapPart.{MapPart}
 use Rattle.erl_tree.specs.declared.type_expr.TypeKind.TheVariants as Y
 use Rattle.erl_tree.specs.declared.type_expr.TypeKind.TheOpen as L
-use Rattle.erl_tree.specs.Grammar.{IsType}
+use Rattle.erl_tree.specs.declared.token.Place.{Place}
+use Rattle.erl_tree.specs.Grammar.{IsType, one_type, atom_type}
 use Rattle.erl_tree.specs.Specs.{and_then, one_integer, built_in_type, type_kind_term, type_term}
 use Rattle.erl_tree.proofs.TreeLaws.{type_kind_term-Atom, type_kind_term-Int, type_kind_term-NegInt, type_kind_term-Paren, type_kind_term-Or, type_kind_term-Range, type_kind_term-Use}
 use Rattle.erl_tree.proofs.GrammarLaws.{flat_type_layer, type-layer}
@@ -124,3 +125,10 @@ Or-term t u v w e r =
     let p : (a : Term) × (type_term u ≡ Some a) × (and_then (type_term v) (λ b. Some (Or (a ∷ b ∷ []))) ≡ Some w) = then-some (type_term u) _ w (sym (ap type_kind_term e ∙ type_kind_term-Or u v) ∙ r) in
     let q : (b : Term) × (type_term v ≡ Some b) × (Some (Or (p.0 ∷ b ∷ [])) ≡ Some w) = then-some (type_term v) _ w p.2 in
     (p.0, q.0, p.1, q.1, some-inj _ w q.2)
+
+-- an atom is a type of a flat module
+pub atom-flat : (p : Place) (ms : List Place) (k : TypeKind) (a : Name) → ms ≡ p ∷ [] → k ≡ Y.Atom a → IsFlatType (record { place = p; marks = ms; kind = k })
+atom-flat p ms k a e q =
+    subst (λ z. IsFlatType (record { place = p; marks = z; kind = k })) (sym e)
+    (subst (λ z. IsFlatType (record { place = p; marks = p ∷ []; kind = z })) (sym q)
+    (record { well_formed = one_type _ (atom_type p a); limited = limited-Atom a; term = AtomLit a; read = type_kind_term-Atom a }))
