@@ -111,8 +111,8 @@ pub completes : (status : ℕ) (words : List (List ℕ)) (held : Option Holdings
     → (status ≡ 4 → ⊥) → (status ≡ 5 → ⊥) → (status ≡ 2 → ⊥) → (status < 4 → status ≢ 2 → Judges status words held before after) → (status ≡ 0) ⊎ (status ≡ 6)
 completes status words held before after right small read write usage judges =
     few status small read write usage (λ below not_two.
-      let j : Judges status words held before after = judges below not_two in
-      sym j.judged.status_is ∙ accepted_verdict right.text right.right j.judged.verdict right.named.short (judged_text status words held before after right.text right.named j))
+    let j : Judges status words held before after = judges below not_two in
+    sym j.judged.status_is ∙ accepted_verdict right.text right.right j.judged.verdict right.named.short (judged_text status words held before after right.text right.named j))
 
 -- a text that spells no flat module isn't built yet
 pub refuses : (status : ℕ) (words : List (List ℕ)) (held : Option Holdings) (before after : Option (List ℕ)) → NamesNoModule words held → status ≤ 6
@@ -120,6 +120,6 @@ pub refuses : (status : ℕ) (words : List (List ℕ)) (held : Option Holdings) 
     → ((status ≡ 3) × Puts before after (report_text V.NotBuilt)) ⊎ (status ≡ 6)
 refuses status words held before after none small read write usage judges =
     few status small read write usage (λ below not_two.
-      let j : Judges status words held before after = judges below not_two in
-      let is : j.judged.verdict ≡ V.NotBuilt = not_read_verdict none.text j.judged.verdict none.named.short none.not_read (judged_text status words held before after none.text none.named j) in
-      (sym j.judged.status_is ∙ ap (λ (v : Verdict). verdict_status v) is, subst (λ (v : Verdict). Puts before after (report_text v)) is j.judged.written))
+    let j : Judges status words held before after = judges below not_two in
+    let is : j.judged.verdict ≡ V.NotBuilt = not_read_verdict none.text j.judged.verdict none.named.short none.not_read (judged_text status words held before after none.text none.named j) in
+    (sym j.judged.status_is ∙ ap (λ (v : Verdict). verdict_status v) is, subst (λ (v : Verdict). Puts before after (report_text v)) is j.judged.written))

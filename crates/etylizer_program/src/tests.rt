@@ -68,21 +68,57 @@ fn expect(
 
 /// The lines behind `-module(a).`, the status and the output.
 const MODULES: [(&[u8], Status, &[u8]); 21] = [
-    (b"-spec f(integer()) -> integer().\nf(X) -> X.\n", 0, b"accepted a: 1 functions, 1 clauses\n"),
+    (
+        b"-spec f(integer()) -> integer().\nf(X) -> X.\n",
+        0,
+        b"accepted a: 1 functions, 1 clauses\n",
+    ),
     (b"", 0, b"accepted a: 0 functions, 0 clauses\n"),
-    (b"-spec f(a) -> b.\nf(X) -> X.\n", 1, b"refused a: f/1 clause 1 at 3:9: result: a\n"),
+    (
+        b"-spec f(a) -> b.\nf(X) -> X.\n",
+        1,
+        b"refused a: f/1 clause 1 at 3:9: result: a\n",
+    ),
     (
         b"-spec f(integer()) -> integer().\nf(X) -> X * 2 - 1.\n-spec g(a) -> integer().\ng(Y) -> f(Y).\n",
         1,
         b"refused a: g/1 clause 1 at 5:9: call: fun/1{(a) -> fails}\n",
     ),
-    (b"-spec f(a) -> integer().\nf(X) -> 1 + X.\n", 1, b"refused a: f/1 clause 1 at 3:13: operand: a\n"),
-    (b"-spec f(a) -> integer().\nf(X) -> 1 - X - 2.\n", 1, b"refused a: f/1 clause 1 at 3:13: operand: a\n"),
-    (b"-spec f(1..3 | a) -> integer() | a.\nf(X) -> X.\n", 0, b"accepted a: 1 functions, 1 clauses\n"),
-    (b"-spec f(1..3) -> 1..2.\nf(X) -> X.\n", 1, b"refused a: f/1 clause 1 at 3:9: result: 3\n"),
-    (b"-spec f(-3..-1) -> -3 | -2 | -1.\nf(X) -> X.\n", 0, b"accepted a: 1 functions, 1 clauses\n"),
-    (b"-spec f((a | b)) -> (b | a).\nf(X) -> ((X)).\n", 0, b"accepted a: 1 functions, 1 clauses\n"),
-    (b"-spec f(integer()) -> integer().\nf(X) -> f(X - 1).\n", 0, b"accepted a: 1 functions, 1 clauses\n"),
+    (
+        b"-spec f(a) -> integer().\nf(X) -> 1 + X.\n",
+        1,
+        b"refused a: f/1 clause 1 at 3:13: operand: a\n",
+    ),
+    (
+        b"-spec f(a) -> integer().\nf(X) -> 1 - X - 2.\n",
+        1,
+        b"refused a: f/1 clause 1 at 3:13: operand: a\n",
+    ),
+    (
+        b"-spec f(1..3 | a) -> integer() | a.\nf(X) -> X.\n",
+        0,
+        b"accepted a: 1 functions, 1 clauses\n",
+    ),
+    (
+        b"-spec f(1..3) -> 1..2.\nf(X) -> X.\n",
+        1,
+        b"refused a: f/1 clause 1 at 3:9: result: 3\n",
+    ),
+    (
+        b"-spec f(-3..-1) -> -3 | -2 | -1.\nf(X) -> X.\n",
+        0,
+        b"accepted a: 1 functions, 1 clauses\n",
+    ),
+    (
+        b"-spec f((a | b)) -> (b | a).\nf(X) -> ((X)).\n",
+        0,
+        b"accepted a: 1 functions, 1 clauses\n",
+    ),
+    (
+        b"-spec f(integer()) -> integer().\nf(X) -> f(X - 1).\n",
+        0,
+        b"accepted a: 1 functions, 1 clauses\n",
+    ),
     (
         b"-spec g(a) -> b.\ng(X) -> h(X).\n-spec h(a) -> b.\nh(_) -> b.\n",
         0,
@@ -106,7 +142,11 @@ const MODULES: [(&[u8], Status, &[u8]); 21] = [
         0,
         b"accepted a: 1 functions, 1 clauses\n",
     ),
-    (b"-spec f() -> integer().\nf() -> 170141183460469231731687303715884105727.\n", 3, NOT_BUILT),
+    (
+        b"-spec f() -> integer().\nf() -> 170141183460469231731687303715884105727.\n",
+        3,
+        NOT_BUILT,
+    ),
     (b"f() -> 1.\n", 3, NOT_BUILT),
     (b"hello", 3, NOT_BUILT),
 ];
@@ -121,7 +161,13 @@ fn checks_modules(rt: HostRuntime) -> Result<(), Fail> {
         text.extend_from_slice(lines)?;
         expect(&rt, alloc, &text, status, output)?;
     }
-    expect(&rt, alloc, b"-module(a).", 0, b"accepted a: 0 functions, 0 clauses\n")?;
+    expect(
+        &rt,
+        alloc,
+        b"-module(a).",
+        0,
+        b"accepted a: 0 functions, 0 clauses\n",
+    )?;
     Ok(())
 }
 
@@ -143,7 +189,13 @@ fn nested(alloc: Global, parentheses: usize) -> Result<Vec<u8>, NoMemory> {
 fn limits_the_nesting(rt: HostRuntime) -> Result<(), Fail> {
     let alloc = rt.alloc();
     let deepest = nested(alloc, 255)?;
-    expect(&rt, alloc, &deepest, 0, b"accepted a: 1 functions, 1 clauses\n")?;
+    expect(
+        &rt,
+        alloc,
+        &deepest,
+        0,
+        b"accepted a: 1 functions, 1 clauses\n",
+    )?;
     let deeper = nested(alloc, 256)?;
     expect(&rt, alloc, &deeper, 3, NOT_BUILT)?;
     Ok(())
