@@ -3,6 +3,7 @@ pub mod Lexis
 pub mod Spelling
 pub mod Grammar
 pub mod Limits
+pub mod Profile
 pub mod Functions
 pub mod Specs
 pub mod Readable
