@@ -1,17 +1,18 @@
 -- Small texts, and what they spell.
-use Rattle.std.proofs.Common.{◌≡◌, refl, sym, ◌∙◌, ap, subst, ℕ, zero, suc, ◌<◌, ◌≤◌, List, [], ◌∷◌, ◌++◌, length, Bool, true, false, Some, arith, append_assoc, inl, inr}
-use Rattle.std.specs.Prelude.{not, ◌&&◌, codes, All}
+use Rattle.std.proofs.Common.{◌≡◌, refl, sym, ◌∙◌, ap, subst, ℕ, ◌<◌, ◌≤◌, List, [], ◌∷◌, ◌++◌, length, Bool, true, false, Some, arith, append_assoc, inl, inr}
+use Rattle.std.specs.Prelude.{not, ◌&&◌, codes}
 use Rattle.std.proofs.lemmas.List.{append-nil}
 use Rattle.std.proofs.Common.{length-append, leb}
-use Rattle.std.proofs.Math.Dec.{ltb}
-use Rattle.std.proofs.lemmas.Bool.{leb-true, leb-false, ltb-true}
+use Rattle.std.proofs.Math.Utf8.{encode}
+use Rattle.std.proofs.lemmas.Bool.{leb-true, leb-false}
 use Rattle.erl_tree.specs.declared.token.Placed.{Placed}
 use Rattle.erl_tree.specs.declared.token.Token.{Token}
 use Rattle.erl_tree.specs.declared.token.Token.TheVariants.{Atom, Mark, Dot, End}
-use Rattle.erl_tree.specs.Lexis.{every, is_white, IsGap, IsLongest, is_token_text, token_of, Spells, SpellsTokens, start}
+use Rattle.erl_tree.specs.Lexis.{is_white, IsGap, IsLongest, is_token_text, token_of, Spells, SpellsTokens, start}
 use Rattle.erl_tree.specs.SmallText.{place, small_text, small_module}
 use Rattle.erl_tree.specs.Spelling.{tokens_of}
 use Rattle.erl_tree.specs.Grammar.{IsWellFormed, SpellsModule}
+use Rattle.erl_tree.proofs.Spelled.{one_text_of_bytes}
 
 -- neither the front nor any longer prefix is the text of a token
 abbrev none_from : List ℕ → List ℕ → Bool
@@ -108,14 +109,10 @@ small_formed : IsWellFormed small_module
 unfolding IsWellFormed
 small_formed = tt
 
-all_ascii : (cs : List ℕ) → every (λ c. ltb c 128) cs ≡ true → All (λ c. c < 128) cs
-all_ascii [] h k d l = absurd (omega arith)
-all_ascii (c ∷ cs) h zero d l = ltb-true c 128 (and_first (ltb c 128) (every (λ x. ltb x 128) cs) h)
-all_ascii (c ∷ cs) h (suc k) d l = all_ascii cs (and_second (ltb c 128) (every (λ x. ltb x 128) cs) h) k d (omega arith)
-
 pub small_spelled : SpellsModule small_text small_module
+unfolding encode
 small_spelled = record {
-  tokens = record { ascii = all_ascii small_text refl; spelled = spells_whole };
+  tokens = record { characters = small_text; are_characters = refl; encoded = refl; spelled = spells_whole };
   well_formed = small_formed;
 }
 
@@ -147,4 +144,5 @@ nothing_spelled (t ∷ u ∷ ts) (gap, word, rest, e, g, k, l, p, m) = dollar_in
 
 -- a dollar sign alone spells nothing
 pub dollar_spells_nothing : (tokens : List Placed) → SpellsTokens (codes "$") tokens → ⊥
-dollar_spells_nothing tokens h = nothing_spelled tokens h.spelled
+unfolding encode
+dollar_spells_nothing tokens h = nothing_spelled tokens (subst (λ (x : List ℕ). Spells start x tokens) (one_text_of_bytes (codes "$") h.characters (codes "$") h.encoded refl) h.spelled)
