@@ -1,112 +1,169 @@
--- Where the digits of an integer go on with more of its text.
-use Rattle.std.proofs.Common.{◌≡◌, ℕ, ◌≤◌, ◌-◌, ◌*◌, ◌+◌, Bool, true, false, List, [], ◌∷◌, ◌++◌, length, take, drop, refl, sym, ◌∙◌, arith, inl, inr}
-use Rattle.std.specs.Prelude.{◌&&◌, ◌||◌, nat_le}
+-- The text of an integer at the front: what is found is one, and no other is longer.
+use Rattle.std.proofs.Common.{◌≡◌, ℕ, zero, suc, ◌≤◌, ◌-◌, ◌*◌, ◌+◌, Bool, true, false, List, [], ◌∷◌, ◌++◌, length, take, drop, Option, Some, None, refl, ap, sym, subst, ◌∙◌, arith, inl, inr}
+use Rattle.std.specs.Prelude.{◌&&◌, ◌||◌, nat_le, if◌then◌else◌}
 use Rattle.std.proofs.Math.Dec.{eqb}
-use Rattle.std.proofs.lemmas.Bool.{eqb-true}
+use Rattle.std.proofs.lemmas.Bool.{eqb-true, or_left, or_right}
 use Rattle.std.proofs.lemmas.Bool.Decides.{nat_tests}
 use Rattle.erl_tree.specs.Lexis.{every, is_digit, is_digit_of, is_grouped, goes_on_grouped, is_based, decimal}
-use Rattle.erl_tree.proofs.TokenTexts.{chosen, and_true, or_true, digit_alone}
-use Rattle.erl_lexer.specs.Scan.{run, goes_on}
+use Rattle.erl_tree.specs.Profile.{further}
+use Rattle.erl_tree.proofs.TokenTexts.{chosen, and_true, or_true}
+use Rattle.erl_lexer.specs.Scan.{first_is, grouped_run, based_run, or_else, integer_length}
 
-pub no_hash : (c : ℕ) → is_digit c ≡ true → eqb c 35 ≡ false
-no_hash c h = grind (arith, nat_tests)
-
--- ---- what goes on has a longer text
-
-grouped_more : (cs : List ℕ) (d : ℕ) → every is_digit cs ≡ true → is_digit d ≡ true → goes_on_grouped is_digit (cs ++ 95 ∷ d ∷ []) ≡ true
-grouped_more [] d h g = rw g refl
-grouped_more (c ∷ cs) d h g = let w = and_true (is_digit c) (every is_digit cs) h in rw (digit_alone c w.0, w.0) (grouped_more cs d w.1 g)
-
-based_more : (base : ℕ) (cs : List ℕ) (d : ℕ) → every is_digit cs ≡ true → nat_le 2 (decimal base cs) ≡ true → nat_le (decimal base cs) 36 ≡ true → is_digit_of (decimal base cs) d ≡ true → is_based base (cs ++ 35 ∷ d ∷ []) ≡ true
-based_more base [] d h l m g = rw (l, m, g) refl
-based_more base (c ∷ cs) d h l m g = let w = and_true (is_digit c) (every is_digit cs) h in rw (no_hash c w.0, w.0) (based_more (base * 10 + (c - 48)) cs d w.1 l m g)
-
--- the first two characters of what follows, where the integer goes on there
-pub record GoesOn (c : ℕ) (cs follow : List ℕ) : Type 0 where
-  pub mark : ℕ
-  pub digit : ℕ
-  pub rest : List ℕ
-  pub is : follow ≡ mark ∷ digit ∷ rest
-  pub text : (is_grouped is_digit (c ∷ (cs ++ mark ∷ digit ∷ [])) || is_based 0 (c ∷ (cs ++ mark ∷ digit ∷ []))) ≡ true
-
-or_left : (a b : Bool) → a ≡ true → (a || b) ≡ true
-or_left true b e = refl
-or_left false b e = absurd cc
-
-or_right : (a b : Bool) → b ≡ true → (a || b) ≡ true
-or_right true b e = refl
-or_right false b e = e
-
-pub goes_on_text : (c : ℕ) (cs follow : List ℕ) → is_digit c ≡ true → every is_digit cs ≡ true → goes_on (decimal 0 (c ∷ cs)) follow ≡ true → GoesOn c cs follow
-goes_on_text c cs [] h g e = absurd cc
-goes_on_text c cs (x ∷ []) h g e = absurd cc
-goes_on_text c cs (x ∷ d ∷ ds) h g e =
-    elim (chosen (eqb x 95) _ _ _ e) [
-      | inl w ↦
-          let t : is_grouped is_digit (c ∷ (cs ++ x ∷ d ∷ [])) ≡ true = rw (eqb-true x 95 w.0, h) (grouped_more cs d g w.1) in
-          record { mark = x; digit = d; rest = ds; is = refl; text = or_left _ _ t }
-      | inr w ↦
-          let a = and_true (eqb x 35) _ w.1 in
-          let b = and_true (nat_le 2 (decimal 0 (c ∷ cs))) _ a.1 in
-          let k = and_true (nat_le (decimal 0 (c ∷ cs)) 36) _ b.1 in
-          let all : every is_digit (c ∷ cs) ≡ true = rw h g in
-          let t : is_based 0 (c ∷ (cs ++ x ∷ d ∷ [])) ≡ true = rw (eqb-true x 35 a.0) (based_more 0 (c ∷ cs) d all b.0 k.0 k.1) in
-          record { mark = x; digit = d; rest = ds; is = refl; text = or_right _ _ t }
-    ]
-
--- ---- what doesn't go on has none
-
-grouped_short : (value : ℕ) (ls after : List ℕ) → goes_on_grouped is_digit ls ≡ true → goes_on value (drop (run is_digit (ls ++ after)) (ls ++ after)) ≡ false → length ls ≤ run is_digit (ls ++ after)
-grouped_short value [] after h g = omega arith
-grouped_short value (d ∷ []) after h g =
-    elim (chosen (eqb d 95) _ _ _ h) [
-      | inl w ↦ absurd (let z : false ≡ true = w.1 in cc)
-      | inr w ↦ let a = and_true (is_digit d) _ w.1 in rw a.0 (omega arith)
-    ]
-grouped_short value (d ∷ e ∷ ls) after h g =
-    elim (chosen (eqb d 95) _ _ _ h) [
-      | inl w ↦
-          let a = and_true (is_digit e) _ w.1 in
-          let k : goes_on value (drop (run is_digit (95 ∷ e ∷ (ls ++ after))) (95 ∷ e ∷ (ls ++ after))) ≡ false = rw (eqb-true d 95 w.0) at g in
-          absurd (let z : is_digit e ≡ false = k in let y : true ≡ false = sym a.0 ∙ z in cc)
-      | inr w ↦
-          let a = and_true (is_digit d) _ w.1 in
-          let k : goes_on value (drop (run is_digit ((e ∷ ls) ++ after)) ((e ∷ ls) ++ after)) ≡ false = rw a.0 at g in
-          rw a.0 (omega (arith, grouped_short value (e ∷ ls) after a.1 k))
-    ]
-
-based_never : (base : ℕ) (ls after : List ℕ) → is_based base ls ≡ true → goes_on (decimal base (take (run is_digit (ls ++ after)) (ls ++ after))) (drop (run is_digit (ls ++ after)) (ls ++ after)) ≡ false → ⊥
-based_never base [] after h g = cc
-based_never base (d ∷ []) after h g =
-    elim (chosen (eqb d 35) _ _ _ h) [
-      | inl w ↦ let a = and_true (nat_le 2 base && nat_le base 36) _ w.1 in absurd (let z : false ≡ true = a.1 in cc)
-      | inr w ↦ let a = and_true (is_digit d) _ w.1 in absurd (let z : false ≡ true = a.1 in cc)
-    ]
-based_never base (d ∷ e ∷ ls) after h g =
-    elim (chosen (eqb d 35) _ _ _ h) [
-      | inl w ↦
-          let a = and_true (nat_le 2 base && nat_le base 36) _ w.1 in
-          let b = and_true (nat_le 2 base) (nat_le base 36) a.0 in
-          let k = and_true (is_digit_of base e) _ a.1 in
-          let z : goes_on (decimal base (take (run is_digit (35 ∷ e ∷ (ls ++ after))) (35 ∷ e ∷ (ls ++ after)))) (drop (run is_digit (35 ∷ e ∷ (ls ++ after))) (35 ∷ e ∷ (ls ++ after))) ≡ false = rw (eqb-true d 35 w.0) at g in
-          let y : (nat_le 2 base && (nat_le base 36 && is_digit_of base e)) ≡ false = z in
-          let x : true ≡ false = rw (b.0, b.1, k.0) at y in
-          cc
-      | inr w ↦
-          let a = and_true (is_digit d) _ w.1 in
-          let k : goes_on (decimal (base * 10 + (d - 48)) (take (run is_digit ((e ∷ ls) ++ after)) ((e ∷ ls) ++ after))) (drop (run is_digit ((e ∷ ls) ++ after)) ((e ∷ ls) ++ after)) ≡ false = rw a.0 at g in
-          based_never (base * 10 + (d - 48)) (e ∷ ls) after a.1 k
-    ]
-
--- a text of an integer at the front is within the digits there, where the integer doesn't go on
-pub integer_covers : (c : ℕ) (ls after : List ℕ) → is_digit c ≡ true → (is_grouped is_digit (c ∷ ls) || is_based 0 (c ∷ ls)) ≡ true
-    → goes_on (decimal 0 (c ∷ take (run is_digit (ls ++ after)) (ls ++ after))) (drop (run is_digit (ls ++ after)) (ls ++ after)) ≡ false → length ls ≤ run is_digit (ls ++ after)
-integer_covers c ls after d h g =
-    elim (or_true _ _ h) [
-      | inl w ↦ let a = and_true (is_digit c) _ w in grouped_short (decimal 0 (c ∷ take (run is_digit (ls ++ after)) (ls ++ after))) ls after a.1 g
-      | inr w ↦ absurd (based_first c ls after d w g)
-    ]
+pub not_95 : (digit : ℕ → Bool) (d : ℕ) → digit 95 ≡ false → digit d ≡ true → eqb d 95 ≡ false
+not_95 digit d n h = by (eqb d 95) refl
   where
-    based_first : (c : ℕ) (ls after : List ℕ) → is_digit c ≡ true → is_based 0 (c ∷ ls) ≡ true
-        → goes_on (decimal 0 (c ∷ take (run is_digit (ls ++ after)) (ls ++ after))) (drop (run is_digit (ls ++ after)) (ls ++ after)) ≡ false → ⊥
-    based_first c ls after d w g = let k : is_based (decimal 0 (c ∷ [])) ls ≡ true = rw (no_hash c d, d) at w in based_never (decimal 0 (c ∷ [])) ls after k g
+    by : (b : Bool) → eqb d 95 ≡ b → b ≡ false
+    by true e = absurd (let z : digit 95 ≡ true = rw (eqb-true d 95 e) at h in let y : false ≡ true = sym n ∙ z in cc)
+    by false e = refl
+
+pub of_95 : (base : ℕ) → is_digit_of base 95 ≡ false
+of_95 base = grind (arith, nat_tests)
+
+pub further_is : (k n : ℕ) (o : Option ℕ) → further k o ≡ Some n → (m : ℕ) × (o ≡ Some m) × (n ≡ k + m)
+further_is k n None e = absurd cc
+further_is k n (Some m) e = (m, refl, cc)
+
+pub some_is : (m n : ℕ) (o : Option ℕ) → o ≡ Some m → o ≡ Some n → m ≡ n
+some_is m n o e g = let z : Some m ≡ Some n = sym e ∙ g in cc
+
+-- ---- digits with underscores
+
+grown : (b : Bool) (n m : ℕ) → b ≡ true → m ≤ n → suc m ≤ (if b then suc n else 0)
+grown true n m e h = omega arith
+grown false n m e h = absurd cc
+
+pub grouped_goes_on : (digit : ℕ → Bool) (cs more : List ℕ) → digit 95 ≡ false → is_grouped digit cs ≡ true → (first_is digit (cs ++ more) ≡ true) × (goes_on_grouped digit cs ≡ true)
+grouped_goes_on digit [] more n h = absurd cc
+grouped_goes_on digit (d ∷ ds) more n h = let a = and_true (digit d) (goes_on_grouped digit ds) h in (a.0, rw (not_95 digit d n a.0, a.0) a.1)
+
+pub grouped_covers : (digit : ℕ → Bool) (word more : List ℕ) → digit 95 ≡ false → goes_on_grouped digit word ≡ true → length word ≤ grouped_run digit (word ++ more)
+grouped_covers digit [] more n h = omega arith
+grouped_covers digit (c ∷ cs) more n h =
+    elim (chosen (eqb c 95) (is_grouped digit cs) (digit c && goes_on_grouped digit cs) true h) [
+      | inl w ↦
+          let g = grouped_goes_on digit cs more n w.1 in
+          grown (digit c || (eqb c 95 && first_is digit (cs ++ more))) _ _ (or_right (digit c) _ (rw w.0 g.0)) (grouped_covers digit cs more n g.1)
+      | inr w ↦
+          let a = and_true (digit c) (goes_on_grouped digit cs) w.1 in
+          grown (digit c || (eqb c 95 && first_is digit (cs ++ more))) _ _ (or_left (digit c) _ a.0) (grouped_covers digit cs more n a.1)
+    ]
+
+pub head_grouped : (digit : ℕ → Bool) (cs : List ℕ) → digit 95 ≡ false → first_is digit cs ≡ true → goes_on_grouped digit (take (grouped_run digit cs) cs) ≡ true → is_grouped digit (take (grouped_run digit cs) cs) ≡ true
+head_grouped digit [] n h g = absurd cc
+head_grouped digit (d ∷ ds) n h g =
+    let k : goes_on_grouped digit (take (grouped_run digit ds) ds) ≡ true = rw (h, not_95 digit d n h, h) at g in
+    rw (h, h) k
+
+grouped_by : (digit : ℕ → Bool) (c : ℕ) (cs : List ℕ) (b : Bool) → digit 95 ≡ false → (digit c || (eqb c 95 && first_is digit cs)) ≡ b → goes_on_grouped digit (take (grouped_run digit cs) cs) ≡ true
+    → goes_on_grouped digit (take (if b then suc (grouped_run digit cs) else 0) (c ∷ cs)) ≡ true
+grouped_by digit c cs false n e h = refl
+grouped_by digit c cs true n e h =
+    elim (or_true (digit c) (eqb c 95 && first_is digit cs) e) [
+      | inl w ↦ rw (not_95 digit c n w, w) h
+      | inr w ↦ let a = and_true (eqb c 95) (first_is digit cs) w in rw a.0 (head_grouped digit cs n a.1 h)
+    ]
+
+pub grouped_is : (digit : ℕ → Bool) (cs : List ℕ) → digit 95 ≡ false → goes_on_grouped digit (take (grouped_run digit cs) cs) ≡ true
+grouped_is digit [] n = refl
+grouped_is digit (c ∷ cs) n = grouped_by digit c cs (digit c || (eqb c 95 && first_is digit cs)) n refl (grouped_is digit cs n)
+
+within_by : (b : Bool) (n m : ℕ) → n ≤ m → (if b then suc n else 0) ≤ suc m
+within_by true n m h = omega arith
+within_by false n m h = omega arith
+
+pub grouped_within : (digit : ℕ → Bool) (cs : List ℕ) → grouped_run digit cs ≤ length cs
+grouped_within digit [] = omega arith
+grouped_within digit (c ∷ cs) = within_by (digit c || (eqb c 95 && first_is digit cs)) _ _ (grouped_within digit cs)
+
+-- ---- digits with a base
+
+based_step : (base c m : ℕ) (cs : List ℕ) → eqb c 35 ≡ false → is_digit c ≡ true → based_run (base * 10 + (c - 48)) cs ≡ Some m → based_run base (c ∷ cs) ≡ Some (1 + m)
+based_step base c m cs e h r = rw (e, h) (ap (further 1) r)
+
+pub based_covers : (base : ℕ) (word more : List ℕ) → is_based base word ≡ true → (n : ℕ) × (based_run base (word ++ more) ≡ Some n) × (length word ≤ n)
+based_covers base [] more h = absurd cc
+based_covers base (c ∷ cs) more h =
+    elim (chosen (eqb c 35) ((nat_le 2 base && nat_le base 36) && is_grouped (is_digit_of base) cs) (is_digit c && is_based (base * 10 + (c - 48)) cs) true h) [
+      | inl w ↦
+          let a = and_true (nat_le 2 base && nat_le base 36) (is_grouped (is_digit_of base) cs) w.1 in
+          let b = and_true (nat_le 2 base) (nat_le base 36) a.0 in
+          let g = grouped_goes_on (is_digit_of base) cs more (of_95 base) a.1 in
+          (suc (grouped_run (is_digit_of base) (cs ++ more)), rw (w.0, b.0, b.1, g.0) refl, omega (arith, grouped_covers (is_digit_of base) cs more (of_95 base) g.1))
+      | inr w ↦
+          let a = and_true (is_digit c) (is_based (base * 10 + (c - 48)) cs) w.1 in
+          let r = based_covers (base * 10 + (c - 48)) cs more a.1 in
+          (1 + r.0, based_step base c r.0 (cs ++ more) w.0 a.0 r.1, omega (arith, r.2))
+    ]
+
+some_suc : (k n : ℕ) → Some k ≡ Some n → n ≡ k
+some_suc k n e = cc
+
+pub based_is : (base n : ℕ) (text : List ℕ) → based_run base text ≡ Some n → (is_based base (take n text) ≡ true) × (n ≤ length text)
+based_is base n [] h = absurd cc
+based_is base n (c ∷ cs) h =
+    elim (chosen (eqb c 35) (if nat_le 2 base && (nat_le base 36 && first_is (is_digit_of base) cs) then Some (suc (grouped_run (is_digit_of base) cs)) else None) (if is_digit c then further 1 (based_run (base * 10 + (c - 48)) cs) else None) (Some n) h) [
+      | inl w ↦ elim (chosen (nat_le 2 base && (nat_le base 36 && first_is (is_digit_of base) cs)) (Some (suc (grouped_run (is_digit_of base) cs))) None (Some n) w.1) [
+        | inl v ↦
+            let e = some_suc _ n v.1 in
+            let a = and_true (nat_le 2 base) _ v.0 in
+            let b = and_true (nat_le base 36) _ a.1 in
+            rw e (rw (w.0, a.0, b.0) (head_grouped (is_digit_of base) cs (of_95 base) b.1 (grouped_is (is_digit_of base) cs (of_95 base))), omega (arith, grouped_within (is_digit_of base) cs))
+        | inr v ↦ absurd (let z : None ≡ Some n = v.1 in cc)
+      ]
+      | inr w ↦ elim (chosen (is_digit c) (further 1 (based_run (base * 10 + (c - 48)) cs)) None (Some n) w.1) [
+        | inl v ↦
+            let f = further_is 1 n (based_run (base * 10 + (c - 48)) cs) v.1 in
+            let r = based_is (base * 10 + (c - 48)) f.0 cs f.1 in
+            let e : n ≡ suc f.0 = omega (arith, f.2) in
+            rw e (rw (w.0, v.0) r.0, omega (arith, r.1))
+        | inr v ↦ absurd (let z : None ≡ Some n = v.1 in cc)
+      ]
+    ]
+
+hash_stops : (cs : List ℕ) → grouped_run is_digit (35 ∷ cs) ≡ 0
+hash_stops cs = refl
+
+pub based_longer : (base n : ℕ) (text : List ℕ) → based_run base text ≡ Some n → grouped_run is_digit text ≤ n
+based_longer base n [] h = absurd cc
+based_longer base n (c ∷ cs) h =
+    elim (chosen (eqb c 35) (if nat_le 2 base && (nat_le base 36 && first_is (is_digit_of base) cs) then Some (suc (grouped_run (is_digit_of base) cs)) else None) (if is_digit c then further 1 (based_run (base * 10 + (c - 48)) cs) else None) (Some n) h) [
+      | inl w ↦ let e : grouped_run is_digit (c ∷ cs) ≡ 0 = ap (λ (x : ℕ). grouped_run is_digit (x ∷ cs)) (eqb-true c 35 w.0) in omega (arith, e)
+      | inr w ↦ elim (chosen (is_digit c) (further 1 (based_run (base * 10 + (c - 48)) cs)) None (Some n) w.1) [
+        | inl v ↦
+            let f = further_is 1 n (based_run (base * 10 + (c - 48)) cs) v.1 in
+            rw v.0 (omega (arith, based_longer (base * 10 + (c - 48)) f.0 cs f.1, f.2))
+        | inr v ↦ absurd (let z : None ≡ Some n = v.1 in cc)
+      ]
+    ]
+
+-- ---- both
+
+covers_by : (c : ℕ) (cs more : List ℕ) (o : Option ℕ) → based_run 0 (c ∷ (cs ++ more)) ≡ o → (is_grouped is_digit (c ∷ cs) || is_based 0 (c ∷ cs)) ≡ true → suc (length cs) ≤ or_else o (grouped_run is_digit (c ∷ (cs ++ more)))
+covers_by c cs more None e h =
+    elim (or_true (is_grouped is_digit (c ∷ cs)) (is_based 0 (c ∷ cs)) h) [
+      | inl w ↦ grouped_covers is_digit (c ∷ cs) more refl (grouped_goes_on is_digit (c ∷ cs) more refl w).1
+      | inr w ↦ let r = based_covers 0 (c ∷ cs) more w in absurd (let z : None ≡ Some r.0 = sym e ∙ r.1 in cc)
+    ]
+covers_by c cs more (Some n) e h =
+    elim (or_true (is_grouped is_digit (c ∷ cs)) (is_based 0 (c ∷ cs)) h) [
+      | inl w ↦ omega (arith, grouped_covers is_digit (c ∷ cs) more refl (grouped_goes_on is_digit (c ∷ cs) more refl w).1, based_longer 0 n (c ∷ (cs ++ more)) e)
+      | inr w ↦ let r = based_covers 0 (c ∷ cs) more w in omega (arith, r.2, some_is r.0 n _ r.1 e)
+    ]
+
+pub integer_covers : (c : ℕ) (cs more : List ℕ) → (is_grouped is_digit (c ∷ cs) || is_based 0 (c ∷ cs)) ≡ true → suc (length cs) ≤ integer_length (c ∷ (cs ++ more))
+integer_covers c cs more h = covers_by c cs more (based_run 0 (c ∷ (cs ++ more))) refl h
+
+-- so many characters at the front are an integer's text
+pub record IsInteger (n : ℕ) (text : List ℕ) : Type 0 where
+  pub is : (is_grouped is_digit (take n text) || is_based 0 (take n text)) ≡ true
+  pub within : n ≤ length text
+
+integer_by : (text : List ℕ) (o : Option ℕ) → based_run 0 text ≡ o → first_is is_digit text ≡ true → IsInteger (or_else o (grouped_run is_digit text)) text
+integer_by text None e h = record { is = or_left _ _ (head_grouped is_digit text refl h (grouped_is is_digit text refl)); within = grouped_within is_digit text }
+integer_by text (Some n) e h = let r = based_is 0 n text e in record { is = or_right _ _ r.0; within = r.1 }
+
+pub integer_is : (text : List ℕ) → first_is is_digit text ≡ true → IsInteger (integer_length text) text
+integer_is text h = integer_by text (based_run 0 text) refl h
+
+pub integer_some : (c : ℕ) (cs : List ℕ) → is_digit c ≡ true → 1 ≤ integer_length (c ∷ cs)
+integer_some c cs h = omega (arith, integer_covers c [] cs (rw h refl))

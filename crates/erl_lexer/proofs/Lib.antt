@@ -1,7 +1,5 @@
-pub mod Runs
-pub mod Marks
+pub mod Encoded
 pub mod Integers
-pub mod Tokens
-pub mod Arms
-pub mod Steps
-pub mod Limits
+pub mod Quotes
+pub mod Marks
+pub mod Texts
