@@ -3,3 +3,5 @@ pub mod Integers
 pub mod Quotes
 pub mod Marks
 pub mod Texts
+pub mod Walks
+pub mod Same
