@@ -5,3 +5,4 @@ pub mod Marks
 pub mod Texts
 pub mod Walks
 pub mod Same
+pub mod Values
