@@ -6,3 +6,4 @@ pub mod Texts
 pub mod Walks
 pub mod Same
 pub mod Values
+pub mod Runs

@@ -2,6 +2,7 @@
 #![tactic(auto)]
 
 mod characters;
+mod scan;
 
 ghost use Rattle.std.specs.Prelude.{◌≡◌};
 
