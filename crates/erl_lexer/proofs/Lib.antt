@@ -1,9 +1,12 @@
 pub mod Encoded
-pub mod Integers
-pub mod Quotes
+pub mod IntegerTexts
+pub mod QuotedTexts
 pub mod Marks
 pub mod Texts
 pub mod Walks
 pub mod Same
 pub mod Values
 pub mod Runs
+pub mod Digits
+pub mod Quoting
+pub mod Forms

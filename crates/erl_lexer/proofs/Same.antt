@@ -14,9 +14,9 @@ use Rattle.erl_tree.specs.declared.token.Place.{Place}
 use Rattle.erl_tree.specs.Lexis.{is_lower, is_upper, is_white, is_digit, is_digit_of, is_escape, is_mark, marks, is_name, after, step}
 use Rattle.erl_tree.specs.Profile.{further, bad_escape, bad_in_quotes, bad_in_character, is_float, begins, outside_form}
 use Rattle.erl_tree.proofs.TokenTexts.{chosen, and_true}
-use Rattle.erl_lexer.specs.Scan.{run, first_is, is_continuation, byte_step, bytes_after, grouped_run, based_run, or_else, integer_length, quoted_run, character_run, character_bytes, mark_length, some_length, length_by}
+use Rattle.erl_lexer.specs.Scan.{run, first_is, is_continuation, byte_step, bytes_after, grouped_run, based_run, or_else, integer_length, quoted_run, character_run, character_bytes, mark_length, some_length, length_by, form_by}
 use Rattle.erl_lexer.proofs.Encoded.{IsWide, wide, high, AreHigh, AreContinuations, IsAsciiTest, encodes_low, first_same, run_same, bytes_of, sized, AreAscii, encodes_ascii, ascii_by}
-use Rattle.erl_lexer.proofs.Integers.{further_is, integer_is}
+use Rattle.erl_lexer.proofs.IntegerTexts.{further_is, integer_is}
 use Rattle.erl_lexer.proofs.Marks.{mark_is}
 use Rattle.erl_lexer.proofs.Texts.{run_le, Kind, kind, IsOther, length_lower, length_upper, length_digit, length_atom, length_string, length_character, length_mark, bad_atom, bad_string, bad_character, bad_other}
 use Rattle.erl_lexer.proofs.Texts.Kind.{Lower, Upper, Digit, Atom, String, Character_mark, Other}
@@ -271,7 +271,7 @@ bad_low c cs l (Digit k u d) = none_at c cs (digit_39 c d) (digit_34 c d) (digit
     none_at : (c : ℕ) (cs : List ℕ) → eqb c 39 ≡ false → eqb c 34 ≡ false → eqb c 36 ≡ false → bad_escape (c ∷ encodes cs) ≡ sized (bad_escape (c ∷ cs)) (c ∷ cs)
     none_at c cs a s m = bad_other c _ a s m ∙ ap (λ (o : Option ℕ). sized o (c ∷ cs)) (sym (bad_other c cs a s m))
 
-bad_none : bad_escape [] ≡ None
+pub bad_none : bad_escape [] ≡ None
 unfolding bad_escape
 bad_none = refl
 
@@ -329,19 +329,6 @@ begins_same (x ∷ xs) (c ∷ cs) a = elim (cases_lt c 128) [
       first ∙ sym (begins_high x c xs cs a.0 h)
 ]
 
--- the form, by the tests in turn
-abbrev pub form_by : (float macro binary send difference triple sigil wide strict loose : Bool) → Option (List ℕ)
-form_by float macro binary send difference triple sigil wide strict loose =
-    if float then Some (codes "float") else
-    if macro then Some (codes "macro") else
-    if binary then Some (codes "binary") else
-    if send then Some (codes "send") else
-    if difference then Some (codes "list difference") else
-    if triple then Some (codes "triple-quoted string") else
-    if sigil then Some (codes "sigil") else
-    if wide then Some (codes "non-ASCII name") else
-    if strict || loose then Some (codes "strict generator") else None
-
 pub form_is : (c : ℕ) (cs : List ℕ) → outside_form (c ∷ cs) ≡ form_by (is_float false (c ∷ cs)) (eqb c 63) (begins (codes "<<") (c ∷ cs)) (eqb c 33) (begins (codes "--") (c ∷ cs)) (begins (codes "\"\"\"") (c ∷ cs)) (eqb c 126) (leb 128 c) (begins (codes "<:-") (c ∷ cs)) (begins (codes "<:=") (c ∷ cs))
 unfolding outside_form
 form_is c cs = refl
@@ -350,7 +337,7 @@ form_high : (c : ℕ) (cs : List ℕ) → 128 ≤ c → outside_form (c ∷ cs) 
 form_high c cs h =
     form_is c cs ∙ rw (float_high false c cs h, is_not 63 c (omega arith) h, begins_high 60 c (codes "<") cs (omega arith) h, is_not 33 c (omega arith) h, begins_high 45 c (codes "-") cs (omega arith) h, begins_high 34 c (codes "\"\"") cs (omega arith) h, is_not 126 c (omega arith) h, le-leb 128 c h) refl
 
-form_none : outside_form [] ≡ None
+pub form_none : outside_form [] ≡ None
 unfolding outside_form
 form_none = refl
 

@@ -10,8 +10,8 @@ use Rattle.erl_tree.specs.Profile.{further, bad_escape, bad_in_quotes, bad_in_ch
 use Rattle.erl_tree.proofs.TokenTexts.{chosen, and_true, token_is_text}
 use Rattle.erl_lexer.specs.Scan.{run, first_is, integer_length, quoted_run, character_run, mark_length, some_length, length_by}
 use Rattle.erl_lexer.proofs.Marks.{mark_is, mark_covers}
-use Rattle.erl_lexer.proofs.Integers.{integer_covers, integer_is, integer_some, further_is, some_is}
-use Rattle.erl_lexer.proofs.Quotes.{quoted_covers, quoted_is, no_bad_in_quotes, character_covers, character_is, no_bad_in_character}
+use Rattle.erl_lexer.proofs.IntegerTexts.{integer_covers, integer_is, integer_some, further_is, some_is}
+use Rattle.erl_lexer.proofs.QuotedTexts.{quoted_covers, quoted_is, no_bad_in_quotes, character_covers, character_is, no_bad_in_character}
 
 -- ---- runs
 

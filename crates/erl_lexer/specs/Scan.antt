@@ -1,10 +1,12 @@
 -- Lengths of gaps and of tokens' texts at the front of a text, from left to right, and the token of a text. In bytes, where nothing else is said.
-use Rattle.std.specs.Prelude.{◌≡◌, ℕ, zero, suc, ◌+◌, ◌-◌, ◌*◌, pos, List, [], ◌∷◌, length, take, drop, Option, Some, None, Bool, true, false, not, nat_le, ◌==◌, ◌&&◌, ◌||◌, if◌then◌else◌}
+use Rattle.std.specs.Prelude.{◌≡◌, ℕ, zero, suc, ◌+◌, ◌-◌, ◌*◌, pos, List, [], ◌∷◌, length, take, drop, Option, Some, None, Bool, true, false, not, nat_le, ◌==◌, ◌&&◌, ◌||◌, if◌then◌else◌, codes}
 use Rattle.erl_tree.specs.declared.token.Place.{Place}
 use Rattle.erl_tree.specs.declared.token.Token.{Token}
 use Rattle.erl_tree.specs.declared.token.Token.TheVariants.{Atom, Var, Int, Char, Str, End}
 use Rattle.erl_tree.specs.Lexis.{is_lower, is_upper, is_digit, is_digit_of, is_name, is_white, is_escape, is_mark, name_token, mark_token, integer_value, unquoted, escape_value}
-use Rattle.erl_tree.specs.Profile.{further}
+use Rattle.erl_tree.specs.Profile.{further, bad_in_quotes, bad_in_character}
+use Rattle.erl_lexer.specs.declared.quotes.Quoted.{Quoted}
+use Rattle.erl_lexer.specs.declared.quotes.Quoted.TheVariants.{Closed, Bad, Open}
 
 -- how many characters at the front are so
 abbrev pub run : (ℕ → Bool) → List ℕ → ℕ
@@ -40,12 +42,18 @@ abbrev pub grouped_run : (ℕ → Bool) → List ℕ → ℕ
 grouped_run digit [] = 0
 grouped_run digit (c ∷ cs) = if digit c || ((c == 95) && first_is digit cs) then suc (grouped_run digit cs) else 0
 
+-- how long the # behind a base is, with the digits after it
+abbrev pub hashed_run : (base : ℕ) → List ℕ → Option ℕ
+hashed_run base cs = if nat_le 2 base && (nat_le base 36 && first_is (is_digit_of base) cs) then Some (suc (grouped_run (is_digit_of base) cs)) else None
+
 -- how long the integer with a base at the front is, after the decimal digits so far
 abbrev pub based_run : (base : ℕ) → List ℕ → Option ℕ
 based_run base [] = None
-based_run base (c ∷ cs) =
-    if c == 35 then (if nat_le 2 base && (nat_le base 36 && first_is (is_digit_of base) cs) then Some (suc (grouped_run (is_digit_of base) cs)) else None)
-    else if is_digit c then further 1 (based_run (base * 10 + (c - 48)) cs) else None
+based_run base (c ∷ cs) = if c == 35 then hashed_run base cs else if is_digit c then further 1 (based_run (base * 10 + (c - 48)) cs) else None
+
+-- any character but #
+abbrev pub is_no_hash : ℕ → Bool
+is_no_hash c = not (c == 35)
 
 -- a number that is there, or another
 abbrev pub or_else : Option ℕ → ℕ → ℕ
@@ -67,6 +75,15 @@ quoted_walk close bad quote (c ∷ d ∷ cs) =
 -- how long what follows an opening quote is, up to and with the closing one, if there is one
 abbrev pub quoted_run : (quote : ℕ) → List ℕ → Option ℕ
 quoted_run quote text = quoted_walk (Some 1) None quote text
+
+-- where the closing quote ends, and where the first bad escape is, by how a quoted text was found to end
+abbrev pub closed_at : Quoted → Option ℕ
+closed_at (Closed n) = Some n
+closed_at _ = None
+
+abbrev pub bad_at : Quoted → Option ℕ
+bad_at (Bad n) = Some n
+bad_at _ = None
 
 -- how many characters of a character's text follow the $
 abbrev pub character_run : List ℕ → Option ℕ
@@ -90,6 +107,14 @@ abbrev pub some_length : ℕ → Option ℕ
 some_length zero = None
 some_length (suc n) = Some (suc n)
 
+-- how long the text of a quoted token, a character or a mark is
+abbrev pub other_length : (character : List ℕ → Option ℕ) (first : ℕ) → List ℕ → Option ℕ
+other_length character c cs =
+    if c == 39 then further 1 (quoted_run 39 cs) else
+    if c == 34 then further 1 (quoted_run 34 cs) else
+    if c == 36 then further 1 (character cs) else
+    some_length (mark_length (c ∷ cs))
+
 -- how long the text of a token at the front is, if there is one
 unfoldable pub length_by : (character : List ℕ → Option ℕ) → List ℕ → Option ℕ
 length_by character [] = None
@@ -97,10 +122,7 @@ length_by character (c ∷ cs) =
     if is_lower c then Some (suc (run is_name cs)) else
     if is_upper c then Some (suc (run is_name cs)) else
     if is_digit c then Some (integer_length (c ∷ cs)) else
-    if c == 39 then further 1 (quoted_run 39 cs) else
-    if c == 34 then further 1 (quoted_run 34 cs) else
-    if c == 36 then further 1 (character cs) else
-    some_length (mark_length (c ∷ cs))
+    other_length character c cs
 
 -- the same of bytes
 abbrev pub token_length : List ℕ → Option ℕ
@@ -114,6 +136,14 @@ code_of (a ∷ b ∷ []) = if a == 92 then escape_value b else (a - 192) * 64 + 
 code_of (a ∷ b ∷ c ∷ []) = ((a - 224) * 64 + (b - 128)) * 64 + (c - 128)
 code_of (a ∷ b ∷ c ∷ d ∷ cs) = (((a - 240) * 64 + (b - 128)) * 64 + (c - 128)) * 64 + (d - 128)
 
+-- a quoted token, a character or a mark
+abbrev pub other_token : (first : ℕ) (text follow : List ℕ) → Token
+other_token c cs follow =
+    if c == 39 then Atom (unquoted cs) else
+    if c == 34 then Str (unquoted cs) else
+    if c == 36 then Char (code_of cs) else
+    mark_token (c ∷ cs) follow
+
 -- the token with this text, before what follows
 unfoldable pub token_by : (text follow : List ℕ) → Token
 token_by [] follow = End
@@ -121,7 +151,21 @@ token_by (c ∷ cs) follow =
     if is_lower c then name_token (c ∷ cs) else
     if is_upper c then Var (c ∷ cs) else
     if is_digit c then Int (pos (integer_value 0 (c ∷ cs))) else
-    if c == 39 then Atom (unquoted cs) else
-    if c == 34 then Str (unquoted cs) else
-    if c == 36 then Char (code_of cs) else
-    mark_token (c ∷ cs) follow
+    other_token c cs follow
+
+-- the form outside of the profile, by the tests in turn
+abbrev pub form_by : (float macro binary send difference triple sigil wide strict loose : Bool) → Option (List ℕ)
+form_by float macro binary send difference triple sigil wide strict loose =
+    if float then Some (codes "float") else
+    if macro then Some (codes "macro") else
+    if binary then Some (codes "binary") else
+    if send then Some (codes "send") else
+    if difference then Some (codes "list difference") else
+    if triple then Some (codes "triple-quoted string") else
+    if sigil then Some (codes "sigil") else
+    if wide then Some (codes "non-ASCII name") else
+    if strict || loose then Some (codes "strict generator") else None
+
+-- where the first bad escape is behind the first character of a quoted token or of a character
+abbrev pub bad_choice : (first : ℕ) → List ℕ → Option ℕ
+bad_choice c cs = if (c == 39) || (c == 34) then bad_in_quotes c cs else if c == 36 then bad_in_character cs else None

@@ -2,6 +2,9 @@
 #![tactic(auto)]
 
 mod characters;
+mod integers;
+mod outside;
+mod quotes;
 mod scan;
 
 ghost use Rattle.std.specs.Prelude.{◌≡◌};

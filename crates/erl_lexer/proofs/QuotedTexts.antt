@@ -7,7 +7,7 @@ use Rattle.erl_tree.specs.Lexis.{is_escape, is_quoted, is_character}
 use Rattle.erl_tree.specs.Profile.{further, bad_in_quotes, bad_in_character}
 use Rattle.erl_tree.proofs.TokenTexts.{chosen, and_true}
 use Rattle.erl_lexer.specs.Scan.{first_is, quoted_run, character_run}
-use Rattle.erl_lexer.proofs.Integers.{further_is}
+use Rattle.erl_lexer.proofs.IntegerTexts.{further_is}
 
 pub not_92 : (quote c : ℕ) → eqb quote 92 ≡ false → eqb c quote ≡ true → eqb c 92 ≡ false
 not_92 quote c n e = rw (eqb-true c quote e) n
