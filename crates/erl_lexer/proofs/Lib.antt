@@ -10,3 +10,4 @@ pub mod Runs
 pub mod Digits
 pub mod Quoting
 pub mod Forms
+pub mod Arms

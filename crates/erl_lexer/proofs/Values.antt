@@ -172,7 +172,7 @@ taken : {A : Type 0} (b : Bool) (x y : A) → b ≡ true → cond b x y ≡ x
 taken true x y e = refl
 taken false x y e = absurd cc
 
-passed : {A : Type 0} (b : Bool) (x y : A) → b ≡ false → cond b x y ≡ y
+pub passed : {A : Type 0} (b : Bool) (x y : A) → b ≡ false → cond b x y ≡ y
 passed true x y e = absurd cc
 passed false x y e = refl
 
@@ -196,6 +196,10 @@ of_character cs f = (refl, refl)
 of_mark : (c : ℕ) (cs f : List ℕ) → IsOther c → (token_of (c ∷ cs) f ≡ when (is_mark (c ∷ cs)) (mark_token (c ∷ cs) f)) × (token_by (c ∷ cs) f ≡ mark_token (c ∷ cs) f)
 unfolding token_of token_by
 of_mark c cs f o = (rw (o.no_lower, o.no_upper, o.no_atom, o.no_string, o.no_character) (passed (is_digit c) _ _ o.no_digit), rw (o.no_lower, o.no_upper, o.no_atom, o.no_string, o.no_character) (passed (is_digit c) _ _ o.no_digit))
+
+pub by_none : (f : List ℕ) → token_by [] f ≡ T.End
+unfolding token_by
+by_none f = refl
 
 pub by_lower : (c : ℕ) (cs f : List ℕ) → is_lower c ≡ true → token_by (c ∷ cs) f ≡ name_token (c ∷ cs)
 by_lower c cs f h = (of_lower c cs f h).1

@@ -4,8 +4,10 @@
 mod characters;
 mod integers;
 mod outside;
+mod places;
 mod quotes;
 mod scan;
+mod token_at;
 
 ghost use Rattle.std.specs.Prelude.{◌≡◌};
 

@@ -1,6 +1,6 @@
 //! Lengths of gaps, names, characters and marks at the front of a text.
 
-ghost use Rattle.std.specs.Prelude.{◌≡◌, ◌≤◌, ◌<◌, ◌+◌, ℕ, false, length, take, drop, [], ◌∷◌, IfSome, MatchOption};
+ghost use Rattle.std.specs.Prelude.{◌≡◌, ◌≤◌, ◌<◌, ◌+◌, ℕ, true, false, length, take, drop, [], ◌∷◌, IfSome, MatchOption};
 ghost use Rattle.erl_tree.specs.Lexis as lexis;
 ghost use Rattle.erl_lexer.specs.Scan as scan;
 ghost use Rattle.erl_lexer.specs.Scan.{run, gap_run, first_is};
@@ -78,6 +78,7 @@ pub(crate) fn gap_length(text: &[u8]) -> usize
 /// Whether the text begins with what may follow a backslash.
 pub(crate) fn begins_escape(text: &[u8]) -> bool
     ensures value { result ≡ first_is lexis.is_escape text.now }
+    ensures some { result ≡ true → 1 ≤ length text.now }
 {
     match text {
         [] => false,
@@ -88,6 +89,7 @@ pub(crate) fn begins_escape(text: &[u8]) -> bool
 /// How many bytes behind a `$` are a character or an escape, if there is one.
 pub(crate) fn character_length(text: &[u8]) -> Option<usize>
     ensures value { result ≡ scan.character_bytes text.now }
+    ensures within { IfSome result (λ n. n ≤ length text.now) }
 {
     let (c, rest) = match front(text) {
         None => return None,
