@@ -1,6 +1,8 @@
 pub mod TokenTexts
 pub mod Gaps
 pub mod Spelled
+pub mod Escapes
+pub mod Lexed
 pub mod MembershipLaws
 pub mod MembershipStability
 pub mod FiniteMapLaws
