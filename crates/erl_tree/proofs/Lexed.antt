@@ -102,7 +102,7 @@ stops_at_no_token rest n word more t e h l f i = n word more t e h
 -- what a fault of this kind at the place p says of the characters that are left at the place `there`
 abbrev pub IsFaultOfRest : (there : Place) (rest : List ℕ) (p : Place) → FaultKind → Type 0
 IsFaultOfRest there rest p (outside form) = (p ≡ there) × (outside_form rest ≡ Some form)
-IsFaultOfRest there rest p wide = (p ≡ there) × (outside_form rest ≡ None) × (word more : List ℕ) × (t : Token) × (rest ≡ word ++ more) × (token_of word more ≡ Some t)
+IsFaultOfRest there rest p wide = (p ≡ there) × (outside_form rest ≡ None) × (word more : List ℕ) × (t : Token) × (rest ≡ word ++ more) × (token_of word more ≡ Some t) × IsLongest word more × IsAboveLimit t
 IsFaultOfRest there rest p escape = (outside_form rest ≡ None) × (before : ℕ) × (bad_escape rest ≡ Some before) × (p ≡ after there (take before rest))
 IsFaultOfRest there rest p no_token = (p ≡ there) × (outside_form rest ≡ None) × (bad_escape rest ≡ None) × (rest ≡ [] → ⊥)
     × ((word more : List ℕ) (t : Token) → rest ≡ word ++ more → token_of word more ≡ Some t → ⊥)
@@ -112,11 +112,29 @@ pub fault_of_rest : (text : List ℕ) (p : Place) (f : FaultKind) → IsFaultAt 
     → (ts : List Placed) × (there : Place) × (rest : List ℕ) × BeginsWith start text ts there rest × IsStop rest × IsFaultOfRest there rest p f
 fault_of_rest text p (outside form) h = (h.tokens, p, h.rest, h.begins, stops_outside h.rest form h.outside, (refl, h.outside))
 fault_of_rest text p wide h =
-    (h.right.tokens, p, h.word ++ h.more, h.right.begins, stops_wide h.word h.more h.token h.spelled h.longest h.wide, (refl, h.right.inside, h.word, h.more, h.token, refl, h.spelled))
+    (h.right.tokens, p, h.word ++ h.more, h.right.begins, stops_wide h.word h.more h.token h.spelled h.longest h.wide, (refl, h.right.inside, h.word, h.more, h.token, refl, h.spelled, h.longest, h.wide))
 fault_of_rest text p escape h =
     (h.right.tokens, h.there, h.rest, h.right.begins, stops_at_escape h.rest h.before h.bad, (h.right.inside, h.before, h.bad, h.placed))
 fault_of_rest text p no_token h =
     (h.right.tokens, p, h.rest, h.right.begins, stops_at_no_token h.rest h.no_token, (refl, h.right.inside, h.escapes, h.goes_on, h.no_token))
+
+-- and the other way
+pub fault_from_rest : (text : List ℕ) (ts : List Placed) (there : Place) (rest : List ℕ) (p : Place) (f : FaultKind) → BeginsWith start text ts there rest → IsFaultOfRest there rest p f → IsFaultAt text p f
+fault_from_rest text ts there rest p (outside form) b h = record { tokens = ts; rest = rest; begins = subst (λ (x : Place). BeginsWith start text ts x rest) (sym h.0) b; outside = h.1 }
+fault_from_rest text ts there rest p wide b (q, o, word, more, t, e, i, j, k) =
+    let b1 : BeginsWith start text ts p rest = subst (λ (x : Place). BeginsWith start text ts x rest) (sym q) b in
+    record {
+      word = word;
+      more = more;
+      token = t;
+      right = record { tokens = ts; begins = subst (BeginsWith start text ts p) e b1; inside = ap outside_form (sym e) ∙ o };
+      spelled = i;
+      longest = j;
+      wide = k;
+    }
+fault_from_rest text ts there rest p escape b (d, n, c, l) = record { there = there; rest = rest; before = n; right = record { tokens = ts; begins = b; inside = d }; bad = c; placed = l }
+fault_from_rest text ts there rest p no_token b h =
+    record { rest = rest; right = record { tokens = ts; begins = subst (λ (x : Place). BeginsWith start text ts x rest) (sym h.0) b; inside = h.1 }; escapes = h.2; goes_on = h.3; no_token = h.4 }
 
 some_is : {A : Type 0} (x y : A) → ◌≡◌ {A = Option A} (Some x) (Some y) → x ≡ y
 some_is x y e = cc
@@ -135,21 +153,21 @@ one_fault_of_rest there rest p q (outside form) escape h k = absurd (not_some (o
 one_fault_of_rest there rest p q (outside form) no_token h k = absurd (not_some (outside_form rest) form h.1 k.1)
 one_fault_of_rest there rest p q wide (outside form) h k = absurd (not_some (outside_form rest) form k.1 h.1)
 one_fault_of_rest there rest p q wide wide h k = (h.0 ∙ sym k.0, refl)
-one_fault_of_rest there rest p q wide escape (a, b, word, more, t, e, i) (d, n, c, l) = absurd (escape_or_token rest word more t n e i c)
-one_fault_of_rest there rest p q wide no_token (a, b, word, more, t, e, i) k = absurd (k.4 word more t e i)
+one_fault_of_rest there rest p q wide escape (a, b, word, more, t, e, i, j, k) (d, n, c, l) = absurd (escape_or_token rest word more t n e i c)
+one_fault_of_rest there rest p q wide no_token (a, b, word, more, t, e, i, j, k) m = absurd (m.4 word more t e i)
 one_fault_of_rest there rest p q escape (outside form) h k = absurd (not_some (outside_form rest) form k.1 h.0)
-one_fault_of_rest there rest p q escape wide (d, n, c, l) (a, b, word, more, t, e, i) = absurd (escape_or_token rest word more t n e i c)
+one_fault_of_rest there rest p q escape wide (d, n, c, l) (a, b, word, more, t, e, i, j, k) = absurd (escape_or_token rest word more t n e i c)
 one_fault_of_rest there rest p q escape escape (d, n, c, l) (d', n', c', l') = (l ∙ (ap (λ x. after there (take x rest)) (some_is n n' (sym c ∙ c')) ∙ sym l'), refl)
 one_fault_of_rest there rest p q escape no_token (d, n, c, l) k = absurd (not_some (bad_escape rest) n c k.2)
 one_fault_of_rest there rest p q no_token (outside form) h k = absurd (not_some (outside_form rest) form k.1 h.1)
-one_fault_of_rest there rest p q no_token wide h (a, b, word, more, t, e, i) = absurd (h.4 word more t e i)
+one_fault_of_rest there rest p q no_token wide h (a, b, word, more, t, e, i, j, k) = absurd (h.4 word more t e i)
 one_fault_of_rest there rest p q no_token escape h (d, n, c, l) = absurd (not_some (bad_escape rest) n c h.2)
 one_fault_of_rest there rest p q no_token no_token h k = (h.0 ∙ sym k.0, refl)
 
 pub no_fault_at_end : (there p : Place) (f : FaultKind) → IsFaultOfRest there [] p f → ⊥
 unfolding outside_form bad_escape
 no_fault_at_end there p (outside form) h = let k = h.1 in cc
-no_fault_at_end there p wide (a, b, word, more, t, e, i) = not_nothing word more t i (sym e)
+no_fault_at_end there p wide (a, b, word, more, t, e, i, j, k) = not_nothing word more t i (sym e)
 no_fault_at_end there p escape (d, n, c, l) = cc
 no_fault_at_end there p no_token h = h.3 refl
 

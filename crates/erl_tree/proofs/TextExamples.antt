@@ -1,12 +1,9 @@
 -- Small texts, and what they spell.
-use Rattle.std.proofs.Common.{◌≡◌, refl, sym, ◌∙◌, ap, subst, ℕ, ◌+◌, ◌-◌, ◌*◌, ◌<◌, ◌≤◌, List, [], ◌∷◌, ◌++◌, length, Bool, true, false, Some, arith, append_assoc, inl, inr}
+use Rattle.std.proofs.Common.{◌≡◌, refl, sym, ◌∙◌, subst, ℕ, ◌+◌, ◌-◌, ◌*◌, ◌≤◌, List, [], ◌∷◌, ◌++◌, length, Bool, true, false, Some, arith, inl, inr}
 use Rattle.std.proofs.Common.{Option, cond}
-use Rattle.std.specs.Prelude.{not, ◌&&◌, ◌||◌, ◌==◌, codes, encode_utf8_all, pos, None}
-use Rattle.std.proofs.lemmas.List.{append-nil}
-use Rattle.std.proofs.Common.{length-append, leb}
+use Rattle.std.specs.Prelude.{◌||◌, ◌==◌, codes, encode_utf8_all, pos, None}
 use Rattle.std.proofs.Math.Utf8.{encode}
 use Rattle.std.proofs.lemmas.Bool.Decides.{nat_tests}
-use Rattle.std.proofs.lemmas.Bool.{leb-true, leb-false}
 use Rattle.erl_tree.specs.declared.token.Place.{Place}
 use Rattle.erl_tree.specs.declared.token.Placed.{Placed}
 use Rattle.erl_tree.specs.declared.token.Token.{Token}
@@ -19,65 +16,8 @@ use Rattle.erl_tree.specs.Spelling.{tokens_of}
 use Rattle.erl_tree.specs.Grammar.{IsWellFormed, SpellsModule}
 use Rattle.erl_tree.proofs.TokenTexts.{NoGap, and_true, digits_grouped, token_is_text}
 use Rattle.erl_tree.proofs.Spelled.{one_text_of_bytes}
+use Rattle.erl_tree.proofs.LongestTexts.{none_from, none_longer, longest, longest_last}
 use Rattle.erl_tree.proofs.Lexed.{no_gap_there, lexed_without_fault}
-
--- neither the front nor any longer prefix is the text of a token
-abbrev none_from : List ℕ → List ℕ → Bool
-none_from front [] = not (is_token_text front)
-none_from front (c ∷ cs) = not (is_token_text front) && none_from (front ++ c ∷ []) cs
-
-not_both : (b : Bool) → b ≡ true → not b ≡ true → ⊥
-not_both true e h = cc
-not_both false e h = cc
-
-and_first : (a b : Bool) → (a && b) ≡ true → a ≡ true
-and_first true b e = refl
-and_first false b e = cc
-
-and_second : (a b : Bool) → (a && b) ≡ true → b ≡ true
-and_second true b e = e
-and_second false b e = cc
-
-cons_is : {A : Type 0} (x y : A) (xs ys : List A) → x ∷ xs ≡ y ∷ ys → (x ≡ y) × (xs ≡ ys)
-cons_is x y xs ys e = (cc, cc)
-
--- a longer text is the front and some more
-none_longer : (front cs more after : List ℕ) → none_from front cs ≡ true → cs ≡ more ++ after → is_token_text (front ++ more) ≡ true → ⊥
-none_longer front [] [] after h e t = not_both (is_token_text front) (ap is_token_text (sym (append-nil front)) ∙ t) h
-none_longer front [] (d ∷ ds) after h e t = cc
-none_longer front (c ∷ cs) [] after h e t = not_both (is_token_text front) (ap is_token_text (sym (append-nil front)) ∙ t) (and_first _ _ h)
-none_longer front (c ∷ cs) (d ∷ ds) after h e t =
-    let s = cons_is c d cs (ds ++ after) e in
-    none_longer (front ++ c ∷ []) cs ds after (and_second _ _ h) s.1 (ap is_token_text (append_assoc front (c ∷ []) ds ∙ ap (λ x. front ++ x ∷ ds) s.0) ∙ t)
-
--- a text that is cut in two ways: the second front is no longer than the first, or goes on after it
-cut : (text follow longer after : List ℕ) → text ++ follow ≡ longer ++ after → (length longer ≤ length text → ⊥) → (more : List ℕ) × (longer ≡ text ++ more) × (follow ≡ more ++ after)
-cut [] follow longer after e n = (longer, refl, e)
-cut (c ∷ cs) follow [] after e n = absurd (n (omega arith))
-cut (c ∷ cs) follow (d ∷ ds) after e n =
-    let s = cons_is c d (cs ++ follow) (ds ++ after) e in
-    let r = cut cs follow ds after s.1 (λ h. n (omega (arith, h))) in
-    (r.0, cc (s.0, r.1), r.2)
-
-le_or : (m n : ℕ) → ((m ≤ n → ⊥) → ⊥) → m ≤ n
-le_or m n h = by_test (leb m n) refl
-  where
-    by_test : (b : Bool) → leb m n ≡ b → m ≤ n
-    by_test true e = leb-true m n e
-    by_test false e = let l : n < m = leb-false m n e in absurd (h (λ k. absurd (omega arith)))
-
--- a text is the longest where no longer prefix of what stands there is the text of a token
-pub longest : (text : List ℕ) (c : ℕ) (cs : List ℕ) → none_from (text ++ c ∷ []) cs ≡ true → IsLongest text (c ∷ cs)
-longest text c cs h longer after e t = le_or (length longer) (length text) (λ n. longer_than (cut text (c ∷ cs) longer after e n) n)
-  where
-    longer_than : (more : List ℕ) × (longer ≡ text ++ more) × (c ∷ cs ≡ more ++ after) → (length longer ≤ length text → ⊥) → ⊥
-    longer_than ([], p, q) n = n (omega (arith, ap length (p ∙ append-nil text)))
-    longer_than (d ∷ ds, p, q) n =
-        let s = cons_is c d cs (ds ++ after) q in
-        none_longer (text ++ c ∷ []) cs ds after h s.1 (ap is_token_text (append_assoc text (c ∷ []) ds ∙ (ap (λ x. text ++ x ∷ ds) s.0 ∙ sym p)) ∙ t)
-
-pub longest_last : (text : List ℕ) → IsLongest text []
-longest_last text longer after e t = omega (arith, ap length e, length-append text [], length-append longer after)
 
 -- ---- `-module(a).`
 
