@@ -4,6 +4,7 @@ pub mod Spelling
 pub mod Grammar
 pub mod Limits
 pub mod Profile
+pub mod Faults
 pub mod Functions
 pub mod Specs
 pub mod Readable
