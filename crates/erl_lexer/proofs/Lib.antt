@@ -11,3 +11,5 @@ pub mod Digits
 pub mod Quoting
 pub mod Forms
 pub mod Arms
+pub mod Loop
+pub mod Answered

@@ -24,3 +24,10 @@ abbrev pub IsOrNoMemory : List Placed → Result (List Placed) LexFault → Type
 IsOrNoMemory tokens (Ok given) = given ≡ tokens
 IsOrNoMemory tokens (Err NoMemory) = Unit {0}
 IsOrNoMemory tokens (Err _) = ⊥
+
+-- the answer is this fault, unless memory ran out
+abbrev pub IsFaultOrNoMemory : LexFault → Result (List Placed) LexFault → Type 0
+IsFaultOrNoMemory NoMemory _ = Unit {0}
+IsFaultOrNoMemory fault (Ok _) = ⊥
+IsFaultOrNoMemory fault (Err NoMemory) = Unit {0}
+IsFaultOrNoMemory fault (Err given) = given ≡ fault

@@ -8,10 +8,12 @@ mod places;
 mod quotes;
 mod scan;
 mod token_at;
+mod tokens;
 
 ghost use Rattle.std.specs.Prelude.{◌≡◌};
 
 pub use characters::is_reserved;
+pub use tokens::lex;
 use erl_tree::Place;
 use std::alloc::AllocError;
 use type_terms::{NoMemory, Text};
