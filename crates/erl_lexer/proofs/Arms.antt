@@ -1,12 +1,10 @@
 -- The length of a token's text and its token, by the first character.
-use Rattle.std.proofs.Common.{◌≡◌, ◌≢◌, ℕ, zero, suc, ◌+◌, ◌-◌, ◌≤◌, Bool, true, false, List, [], ◌∷◌, ◌++◌, length, take, drop, Option, Some, None, refl, ap, sym, subst, ◌∙◌, arith, inl, inr}
+use Rattle.std.proofs.Common.{◌≡◌, ◌≢◌, ℕ, zero, suc, ◌+◌, ◌≤◌, Bool, true, false, List, [], ◌∷◌, length, take, Option, Some, None, refl, ap, sym, ◌∙◌, arith, inl, inr}
 use Rattle.std.specs.Prelude.{◌||◌, if◌then◌else◌, pos, nat_le}
 use Rattle.std.proofs.Math.Dec.{eqb}
 use Rattle.std.proofs.lemmas.Bool.Decides.{nat_tests}
-use Rattle.erl_tree.specs.declared.token.Token.{Token}
 use Rattle.erl_tree.specs.declared.token.Token.TheVariants as T
 use Rattle.erl_tree.specs.Lexis.{is_lower, is_upper, is_digit, is_name, is_escape, is_grouped, is_based, integer_value, name_token}
-use Rattle.erl_tree.specs.Profile.{further}
 use Rattle.erl_lexer.specs.Scan.{run, first_is, is_continuation, integer_length, quoted_run, character_bytes, mark_length, some_length, other_length, length_by, other_token, token_by}
 use Rattle.erl_lexer.proofs.IntegerTexts.{integer_is, integer_some, further_is}
 use Rattle.erl_lexer.proofs.QuotedTexts.{quoted_is}
@@ -106,6 +104,7 @@ bytes_within m (c ∷ cs) h = by (eqb c 92) (first_is is_escape cs) (nat_le 128 
     two : (cs : List ℕ) → first_is is_escape cs ≡ true → 1 ≤ length cs
     two [] e = absurd cc
     two (d ∷ ds) e = omega arith
+
     by : (a e w : Bool) → first_is is_escape cs ≡ e → (if a then (if e then Some 2 else None) else if w then Some (suc (run is_continuation cs)) else Some 1) ≡ Some m → m ≤ suc (length cs)
     by true true w f g = omega (arith, two cs f, some_eq 2 m g)
     by true false w f g = absurd cc

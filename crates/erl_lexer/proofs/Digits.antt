@@ -1,15 +1,13 @@
 -- Steps of the loops over an integer's text, and its value.
-use Rattle.std.proofs.Common.{◌≡◌, ℕ, zero, suc, ◌+◌, ◌-◌, ◌*◌, ◌<◌, ◌≤◌, Bool, true, false, List, [], ◌∷◌, ◌++◌, length, get_or, take, drop, Option, Some, None, refl, ap, sym, subst, ◌∙◌, arith, add-one, inl, inr, min}
+use Rattle.std.proofs.Common.{◌≡◌, ℕ, suc, ◌+◌, ◌-◌, ◌*◌, ◌<◌, ◌≤◌, Bool, true, false, List, [], ◌∷◌, length, get_or, take, drop, Some, None, refl, ap, sym, ◌∙◌, arith, inl, inr, min}
 use Rattle.std.specs.Prelude.{◌&&◌, ◌||◌, not, nat_le, if◌then◌else◌}
 use Rattle.std.proofs.Math.Dec.{eqb}
-use Rattle.std.proofs.Math.Nat.{mul-le-mul_left}
 use Rattle.std.proofs.lemmas.Bool.{eqb-true, cases_lt, leb-true, lt-leb}
 use Rattle.std.proofs.lemmas.Bool.Decides.{nat_tests}
-use Rattle.erl_tree.specs.Lexis.{is_digit, is_digit_of, is_grouped, goes_on_grouped, is_based, decimal, number, digit_value, integer_value}
+use Rattle.erl_tree.specs.Lexis.{is_digit, is_digit_of, is_grouped, goes_on_grouped, is_based, number, digit_value, integer_value}
 use Rattle.erl_tree.specs.Profile.{further}
 use Rattle.erl_tree.proofs.TokenTexts.{chosen, and_true, or_true}
 use Rattle.erl_lexer.specs.Scan.{run, first_is, grouped_run, hashed_run, based_run, is_no_hash}
-use Rattle.erl_lexer.proofs.IntegerTexts.{of_95, not_95}
 use Rattle.erl_lexer.proofs.Walks.{further_further}
 use Rattle.erl_lexer.proofs.Runs.{first_of, none_of, run_step, run_stop, run_end}
 
@@ -163,7 +161,7 @@ based_by before c cs d h =
     let v : digit_value c ≡ c - 48 = rw d refl in
     let n : run is_no_hash (c ∷ cs) ≡ suc (run is_no_hash cs) = rw a refl in
     let base : number 10 before (take (run is_no_hash (c ∷ cs)) (c ∷ cs)) ≡ number 10 (before * 10 + (c - 48)) (take (run is_no_hash cs) cs) =
-        ap (λ (k : ℕ). number 10 before (take k (c ∷ cs))) n ∙ rw (b, d) refl in
+    ap (λ (k : ℕ). number 10 before (take k (c ∷ cs))) n ∙ rw (b, d) refl in
     let whole : integer_value before (c ∷ cs) ≡ integer_value (before * 10 + (c - 48)) cs = rw (a, b, d) refl in
     let back : drop 1 (drop (run is_no_hash (c ∷ cs)) (c ∷ cs)) ≡ drop 1 (drop (run is_no_hash cs) cs) = ap (λ (k : ℕ). drop 1 (drop k (c ∷ cs))) n in
     record {
@@ -194,12 +192,13 @@ not_35 c h = grind (arith, nat_tests)
 grouped_free : (text : List ℕ) → (goes_on_grouped is_digit text ≡ true → run is_no_hash text ≡ length text) × (is_grouped is_digit text ≡ true → run is_no_hash text ≡ length text)
 grouped_free [] = (λ h. refl, λ h. refl)
 grouped_free (c ∷ cs) =
-    let r = grouped_free cs in
-    (λ h. elim (chosen (eqb c 95) (is_grouped is_digit cs) (is_digit c && goes_on_grouped is_digit cs) true h) [
-      | inl w ↦ no_hash_step c cs (not_35 c w.0) (r.1 w.1)
-      | inr w ↦ let a = and_true (is_digit c) (goes_on_grouped is_digit cs) w.1 in no_hash_step c cs (digit_not 35 c refl a.0) (r.0 a.1)
-    ],
-    λ h. let a = and_true (is_digit c) (goes_on_grouped is_digit cs) h in no_hash_step c cs (digit_not 35 c refl a.0) (r.0 a.1))
+    let r = grouped_free cs in (
+      λ h. elim (chosen (eqb c 95) (is_grouped is_digit cs) (is_digit c && goes_on_grouped is_digit cs) true h) [
+        | inl w ↦ no_hash_step c cs (not_35 c w.0) (r.1 w.1)
+        | inr w ↦ let a = and_true (is_digit c) (goes_on_grouped is_digit cs) w.1 in no_hash_step c cs (digit_not 35 c refl a.0) (r.0 a.1)
+      ],
+      λ h. let a = and_true (is_digit c) (goes_on_grouped is_digit cs) h in no_hash_step c cs (digit_not 35 c refl a.0) (r.0 a.1),
+    )
 
 pub has_base : (text : List ℕ) (at : ℕ) → (is_grouped is_digit text || is_based 0 text) ≡ true → at ≡ run is_no_hash text → (at ≡ length text → ⊥) → HasBase 0 text
 has_base text at h e n = elim (or_true (is_grouped is_digit text) (is_based 0 text) h) [

@@ -1,16 +1,13 @@
 -- The UTF-8 of characters: an ASCII character is its own byte, and the bytes of another are a first one of 192 and more and continuations.
-use Rattle.std.proofs.Common.{◌≡◌, ℕ, zero, suc, ◌+◌, ◌-◌, ◌*◌, ◌/◌, ◌%◌, ◌<◌, ◌≤◌, Bool, true, false, cond, List, [], ◌∷◌, ◌++◌, length, take, drop, Option, Some, None, refl, ap, sym, subst, ◌∙◌, append_assoc, arith, inl, inr}
-use Rattle.std.specs.Prelude.{◌⊎◌, ◌&&◌, ◌||◌, if◌then◌else◌, nat_le, ◌==◌}
-use Rattle.std.proofs.Math.Dec.{eqb, leb, ltb}
-use Rattle.std.proofs.lemmas.Bool.{eqb-true, cases_lt, lt-ltb, le-ltb, ltb-true, ltb-false, leb-true, leb-false}
-use Rattle.std.proofs.lemmas.Bool.Decides.{nat_tests}
-use Rattle.std.proofs.lemmas.List.{take-append-drop, length-append, length-take}
+use Rattle.std.proofs.Common.{◌≡◌, ℕ, suc, ◌+◌, ◌/◌, ◌%◌, ◌<◌, ◌≤◌, Bool, true, false, cond, List, [], ◌∷◌, ◌++◌, length, take, drop, Option, Some, None, refl, ap, sym, subst, ◌∙◌, arith, inl, inr}
+use Rattle.std.specs.Prelude.{if◌then◌else◌}
+use Rattle.std.proofs.Math.Dec.{ltb}
+use Rattle.std.proofs.lemmas.Bool.{cases_lt, le-ltb}
+use Rattle.std.proofs.lemmas.List.{take-append-drop}
 use Rattle.std.proofs.Math.Seq.{take-append_seam, drop-append_seam}
 use Rattle.std.proofs.lemmas.Str.{encode_ascii, encodes-append}
 use lib.Utf8.{encode, encodes}
-use Rattle.erl_tree.specs.Lexis.{every}
-use Rattle.erl_tree.specs.Profile.{further}
-use Rattle.erl_lexer.specs.Scan.{run, is_continuation, first_is}
+use Rattle.erl_lexer.specs.Scan.{run, first_is}
 
 -- 128 and more
 abbrev pub AreHigh : List ℕ → Type 0

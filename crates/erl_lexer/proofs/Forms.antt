@@ -1,15 +1,13 @@
 -- Steps of the tests on forms outside of the profile and on bad escapes.
-use Rattle.std.proofs.Common.{◌≡◌, ℕ, zero, suc, ◌+◌, ◌-◌, ◌*◌, ◌<◌, ◌≤◌, Bool, true, false, List, [], ◌∷◌, ◌++◌, length, get_or, take, drop, Option, Some, None, refl, ap, sym, subst, ◌∙◌, arith, inl, inr}
-use Rattle.std.specs.Prelude.{◌⊎◌, ◌&&◌, ◌||◌, not, nat_le, ◌==◌, if◌then◌else◌, codes}
+use Rattle.std.proofs.Common.{◌≡◌, ℕ, ◌+◌, ◌<◌, ◌≤◌, Bool, true, false, List, [], ◌∷◌, length, get_or, drop, Option, None, refl, ap, ◌∙◌}
+use Rattle.std.specs.Prelude.{◌&&◌, ◌||◌, if◌then◌else◌, codes}
 use Rattle.std.proofs.Math.Dec.{eqb, leb}
-use Rattle.std.proofs.lemmas.Bool.{eqb-true, eq-eqb, ne_eqb}
-use Rattle.erl_tree.specs.Lexis.{is_digit, is_escape}
+use Rattle.std.proofs.lemmas.Bool.{eq-eqb, ne_eqb}
+use Rattle.erl_tree.specs.Lexis.{is_digit}
 use Rattle.erl_tree.specs.Profile.{further, is_float, begins, outside_form, bad_escape, bad_in_quotes, bad_in_character}
 use Rattle.erl_lexer.specs.Scan.{first_is, form_by, bad_choice}
 use Rattle.erl_lexer.proofs.Runs.{first_of, none_of}
-use Rattle.erl_lexer.proofs.Walks.{further_further}
 use Rattle.erl_lexer.proofs.Same.{float_step, form_is, form_none, bad_none}
-use Rattle.erl_lexer.proofs.Texts.{bad_atom, bad_string, bad_character, bad_other}
 
 -- ---- floats
 

@@ -1,10 +1,10 @@
 -- The text of an integer at the front: what is found is one, and no other is longer.
-use Rattle.std.proofs.Common.{◌≡◌, ℕ, zero, suc, ◌≤◌, ◌-◌, ◌*◌, ◌+◌, Bool, true, false, List, [], ◌∷◌, ◌++◌, length, take, drop, Option, Some, None, refl, ap, sym, subst, ◌∙◌, arith, inl, inr}
+use Rattle.std.proofs.Common.{◌≡◌, ℕ, suc, ◌≤◌, ◌-◌, ◌*◌, ◌+◌, Bool, true, false, List, [], ◌∷◌, ◌++◌, length, take, Option, Some, None, refl, ap, sym, ◌∙◌, arith, inl, inr}
 use Rattle.std.specs.Prelude.{◌&&◌, ◌||◌, nat_le, if◌then◌else◌}
 use Rattle.std.proofs.Math.Dec.{eqb}
 use Rattle.std.proofs.lemmas.Bool.{eqb-true, or_left, or_right}
 use Rattle.std.proofs.lemmas.Bool.Decides.{nat_tests}
-use Rattle.erl_tree.specs.Lexis.{every, is_digit, is_digit_of, is_grouped, goes_on_grouped, is_based, decimal}
+use Rattle.erl_tree.specs.Lexis.{is_digit, is_digit_of, is_grouped, goes_on_grouped, is_based}
 use Rattle.erl_tree.specs.Profile.{further}
 use Rattle.erl_tree.proofs.TokenTexts.{chosen, and_true, or_true}
 use Rattle.erl_lexer.specs.Scan.{first_is, grouped_run, based_run, or_else, integer_length}

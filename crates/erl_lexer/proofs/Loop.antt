@@ -1,18 +1,18 @@
 -- What the loop over a text keeps: the characters begin with the tokens so far, up to its place.
-use Rattle.std.proofs.Common.{◌≡◌, ◌≢◌, ℕ, zero, suc, ◌+◌, ◌-◌, ◌<◌, ◌≤◌, Bool, true, false, List, [], ◌∷◌, ◌++◌, length, take, drop, Option, Some, None, Result, Ok, Err, refl, ap, sym, subst, ◌∙◌, append_assoc, arith, inl, inr}
-use Rattle.std.specs.Prelude.{◌⊎◌, ◌||◌, if◌then◌else◌, IsUtf8}
+use Rattle.std.proofs.Common.{◌≡◌, ◌≢◌, ℕ, ◌+◌, ◌≤◌, Bool, true, false, List, [], ◌∷◌, ◌++◌, length, take, drop, Option, Some, None, Ok, Err, refl, ap, sym, subst, ◌∙◌, arith}
+use Rattle.std.specs.Prelude.{if◌then◌else◌, IsUtf8}
 use Rattle.std.proofs.Math.Dec.{eqb}
 use Rattle.std.proofs.lemmas.Bool.{eqb-true, ne_eqb}
-use Rattle.std.proofs.lemmas.List.{append-nil, take-append-drop, nil_from_length, length-append, length-take, length-drop}
-use Rattle.std.proofs.lemmas.Str.{length-le-encodes, encodes-append}
-use lib.Utf8.{encode, encodes, scalars}
+use Rattle.std.proofs.lemmas.List.{take-append-drop, nil_from_length}
+use Rattle.std.proofs.lemmas.Str.{length-le-encodes}
+use lib.Utf8.{encodes, scalars}
 use Rattle.erl_tree.specs.declared.token.Place.{Place}
 use Rattle.erl_tree.specs.declared.token.Placed.{Placed}
 use Rattle.erl_tree.specs.declared.token.Token.{Token}
 use Rattle.erl_tree.specs.declared.token.Token.TheVariants as T
-use Rattle.erl_tree.specs.Lexis.{is_white, IsGap, IsLongest, token_of, after, start}
-use Rattle.erl_tree.specs.Limits.{IsAboveLimit, IsInLimit}
-use Rattle.erl_tree.specs.Profile.{outside_form, bad_escape, begins_gap, BeginsWith, IsLexed, IsRightUpTo, IsOutsideAt, IsWideAt, IsBadEscapeAt, IsBadTokenAt}
+use Rattle.erl_tree.specs.Lexis.{IsGap, IsLongest, token_of, after, start}
+use Rattle.erl_tree.specs.Limits.{IsInLimit}
+use Rattle.erl_tree.specs.Profile.{outside_form, bad_escape, begins_gap, BeginsWith, IsLexed, IsRightUpTo}
 use Rattle.erl_tree.proofs.TokenTexts.{NoGap}
 use Rattle.erl_lexer.specs.declared.LexFault.{LexFault}
 use Rattle.erl_lexer.specs.declared.LexFault.TheVariants.{NoMemory, NotUtf8, OutOfProfile, WideNumber, BadEscape, BadToken}
@@ -102,8 +102,12 @@ at_place bytes out place left s =
     let front : take (gap_run false left) left ≡ encodes (take m s.rest) = ap (λ (k : ℕ). take k left) size ∙ (ap (take (bytes_of m s.rest)) (sym s.of_rest) ∙ take_bytes m s.rest) in
     let back : drop (gap_run false left) left ≡ encodes (drop m s.rest) = ap (λ (k : ℕ). drop k left) size ∙ (ap (drop (bytes_of m s.rest)) (sym s.of_rest) ∙ drop_bytes m s.rest) in
     record {
-      characters = s.characters; are_characters = s.are_characters; encoded = s.encoded;
-      before = place; gap = take m s.rest; rest = drop m s.rest;
+      characters = s.characters;
+      are_characters = s.are_characters;
+      encoded = s.encoded;
+      before = place;
+      gap = take m s.rest;
+      rest = drop m s.rest;
       of_rest = sym back;
       reached = subst (λ (l : List ℕ). Reaches start s.characters out place l) (sym (take-append-drop m s.rest)) s.reached;
       is_gap = g.gap;
@@ -129,7 +133,11 @@ pub ends : (bytes : List ℕ) (out all : List Placed) (here : Place) (more : Lis
 ends bytes out all here more a e l =
     let none : a.rest ≡ [] = encodes_nil a.rest (a.of_rest ∙ e) in
     record {
-      characters = a.characters; are_characters = a.are_characters; encoded = a.encoded; before = out; end = here;
+      characters = a.characters;
+      are_characters = a.are_characters;
+      encoded = a.encoded;
+      before = out;
+      end = here;
       spelled = subst (λ (r : List ℕ). BeginsWith start a.characters out here r) none (begins_at bytes out here more a);
       listed = l;
     }
@@ -163,7 +171,9 @@ read rest more n e h =
     let back : drop n more ≡ encodes (drop s.0 rest) = ap (λ (k : ℕ). drop k more) s.2 ∙ (ap (drop (bytes_of s.0 rest)) (sym e) ∙ drop_bytes s.0 rest) in
     let same : token_by (encodes (take s.0 rest)) (encodes (drop s.0 rest)) ≡ token_by (take n more) (drop n more) = ap (λ (l : List ℕ). token_by l (encodes (drop s.0 rest))) (sym front) ∙ ap (token_by (take n more)) (sym back) in
     record {
-      size = s.0; bytes = s.2; text = t;
+      size = s.0;
+      bytes = s.2;
+      text = t;
       spelled = token_same (take s.0 rest) (drop s.0 rest) t.is ∙ ap (λ (x : Token). Some x) same;
       longest = longest s.0 rest s.1;
     }
@@ -192,7 +202,10 @@ goes bytes out all here there more text follow t n a f et ef ep ea =
     } in
     let there_is : there ≡ after (after a.before a.gap) word = ep ∙ (ap (bytes_after here) (et ∙ front) ∙ (after_same here word ∙ ap (λ (p : Place). after p word) a.place)) in
     record {
-      characters = a.characters; are_characters = a.are_characters; encoded = a.encoded; rest = after_word;
+      characters = a.characters;
+      are_characters = a.are_characters;
+      encoded = a.encoded;
+      rest = after_word;
       of_rest = sym (ef ∙ back);
       reached = rw (ea, there_is) (reaches_push out start a.before a.characters (a.gap ++ a.rest) (placed t here) a.gap word after_word a.reached next);
     }
@@ -206,29 +219,48 @@ fails bytes out here more (OutOfProfile place form) a n f =
 fails bytes out here more (WideNumber place) a n f =
     let k : ℕ = f.1.0 in
     let r = read a.rest more k a.of_rest f.1.1 in
-    let whole : a.rest ≡ take r.size a.rest ++ drop r.size a.rest = sym (take-append-drop r.size a.rest) in
-    (a.characters, a.are_characters, a.encoded, rw f.2 (record {
-      word = take r.size a.rest; more = drop r.size a.rest; token = token_by (take k more) (drop k more);
-      right = subst (λ (l : List ℕ). IsRightUpTo a.characters here l) whole (record { tokens = out; begins = begins_at bytes out here more a; inside = inside_at a.rest more None a.of_rest f.0 });
-      spelled = r.spelled; longest = r.longest; wide = f.1.2;
-    }))
+    let whole : a.rest ≡ take r.size a.rest ++ drop r.size a.rest = sym (take-append-drop r.size a.rest) in (
+      a.characters,
+      a.are_characters,
+      a.encoded,
+      rw f.2 (record {
+        word = take r.size a.rest;
+        more = drop r.size a.rest;
+        token = token_by (take k more) (drop k more);
+        right = subst (λ (l : List ℕ). IsRightUpTo a.characters here l) whole (record { tokens = out; begins = begins_at bytes out here more a; inside = inside_at a.rest more None a.of_rest f.0 });
+        spelled = r.spelled;
+        longest = r.longest;
+        wide = f.1.2;
+      }),
+    )
 fails bytes out here more (BadEscape place) a n f =
     let k : ℕ = f.1.0 in
     let s = sized_is (bad_escape a.rest) a.rest k (sym (bad_escape_same a.rest) ∙ (ap bad_escape a.of_rest ∙ f.1.1)) in
-    let front : take k more ≡ encodes (take s.0 a.rest) = ap (λ (j : ℕ). take j more) s.2 ∙ (ap (take (bytes_of s.0 a.rest)) (sym a.of_rest) ∙ take_bytes s.0 a.rest) in
-    (a.characters, a.are_characters, a.encoded, record {
-      there = here; rest = a.rest; before = s.0;
-      right = record { tokens = out; begins = begins_at bytes out here more a; inside = inside_at a.rest more None a.of_rest f.0 };
-      bad = s.1; placed = f.1.2 ∙ (ap (bytes_after here) front ∙ after_same here (take s.0 a.rest));
-    })
-fails bytes out here more (BadToken place) a n f =
-    (a.characters, a.are_characters, a.encoded, rw f.3 (record {
-      rest = a.rest;
-      right = record { tokens = out; begins = begins_at bytes out here more a; inside = inside_at a.rest more None a.of_rest f.0 };
-      escapes = sized_none (bad_escape a.rest) a.rest (sym (bad_escape_same a.rest) ∙ (ap bad_escape a.of_rest ∙ f.1));
-      goes_on = λ e. n (sym a.of_rest ∙ ap encodes e);
-      no_token = λ word rest t e g. none_there a.rest word rest t (sized_none (length_by character_run a.rest) a.rest (sym (length_same a.rest) ∙ (ap (length_by character_bytes) a.of_rest ∙ f.2))) e g;
-    }))
+    let front : take k more ≡ encodes (take s.0 a.rest) = ap (λ (j : ℕ). take j more) s.2 ∙ (ap (take (bytes_of s.0 a.rest)) (sym a.of_rest) ∙ take_bytes s.0 a.rest) in (
+      a.characters,
+      a.are_characters,
+      a.encoded,
+      record {
+        there = here;
+        rest = a.rest;
+        before = s.0;
+        right = record { tokens = out; begins = begins_at bytes out here more a; inside = inside_at a.rest more None a.of_rest f.0 };
+        bad = s.1;
+        placed = f.1.2 ∙ (ap (bytes_after here) front ∙ after_same here (take s.0 a.rest));
+      },
+    )
+fails bytes out here more (BadToken place) a n f = (
+  a.characters,
+  a.are_characters,
+  a.encoded,
+  rw f.3 (record {
+    rest = a.rest;
+    right = record { tokens = out; begins = begins_at bytes out here more a; inside = inside_at a.rest more None a.of_rest f.0 };
+    escapes = sized_none (bad_escape a.rest) a.rest (sym (bad_escape_same a.rest) ∙ (ap bad_escape a.of_rest ∙ f.1));
+    goes_on = λ e. n (sym a.of_rest ∙ ap encodes e);
+    no_token = λ word rest t e g. none_there a.rest word rest t (sized_none (length_by character_run a.rest) a.rest (sym (length_same a.rest) ∙ (ap (length_by character_bytes) a.of_rest ∙ f.2))) e g;
+  }),
+)
 
 -- ---- places
 

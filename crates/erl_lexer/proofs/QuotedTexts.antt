@@ -1,6 +1,6 @@
 -- Quoted texts and characters at the front: what is found is one, and there is no other.
-use Rattle.std.proofs.Common.{◌≡◌, ℕ, zero, suc, ◌≤◌, ◌-◌, ◌*◌, ◌+◌, Bool, true, false, List, [], ◌∷◌, ◌++◌, length, take, drop, Option, Some, None, refl, ap, sym, subst, ◌∙◌, arith, inl, inr}
-use Rattle.std.specs.Prelude.{◌&&◌, ◌||◌, not, nat_le, if◌then◌else◌}
+use Rattle.std.proofs.Common.{◌≡◌, ℕ, zero, suc, ◌≤◌, ◌+◌, true, false, List, [], ◌∷◌, ◌++◌, length, take, Some, None, refl, ap, ◌∙◌, arith, inl, inr}
+use Rattle.std.specs.Prelude.{◌&&◌, not, if◌then◌else◌}
 use Rattle.std.proofs.Math.Dec.{eqb}
 use Rattle.std.proofs.lemmas.Bool.{eqb-true, not-true}
 use Rattle.erl_tree.specs.Lexis.{is_escape, is_quoted, is_character}
@@ -74,23 +74,6 @@ quoted_is quote n (c ∷ d ∷ cs) h =
       ]
     ]
 
-bad_closes : (quote c : ℕ) (more : List ℕ) → eqb quote 92 ≡ false → eqb c quote ≡ true → bad_in_quotes quote (c ∷ more) ≡ None
-bad_closes quote c [] n e = rw (not_92 quote c n e) refl
-bad_closes quote c (d ∷ ds) n e = rw (not_92 quote c n e, e) refl
-
--- where a quoted text ends, all its escapes are right
-pub no_bad_in_quotes : (quote : ℕ) (word more : List ℕ) → eqb quote 92 ≡ false → is_quoted quote word ≡ true → bad_in_quotes quote (word ++ more) ≡ None
-no_bad_in_quotes quote [] more n h = absurd cc
-no_bad_in_quotes quote (c ∷ []) more n h = bad_closes quote c more n h
-no_bad_in_quotes quote (c ∷ d ∷ cs) more n h =
-    elim (chosen (eqb c 92) (is_escape d && is_quoted quote cs) (not (eqb c quote) && is_quoted quote (d ∷ cs)) true h) [
-      | inl w ↦ let a = and_true (is_escape d) (is_quoted quote cs) w.1 in rw (w.0, a.0, no_bad_in_quotes quote cs more n a.1) refl
-      | inr w ↦
-          let a = and_true (not (eqb c quote)) (is_quoted quote (d ∷ cs)) w.1 in
-          let r : bad_in_quotes quote (d ∷ (cs ++ more)) ≡ None = no_bad_in_quotes quote (d ∷ cs) more n a.1 in
-          rw (w.0, not-true _ a.0) (ap (further 1) r)
-    ]
-
 -- ---- characters
 
 pub character_covers : (word more : List ℕ) → is_character word ≡ true → character_run (word ++ more) ≡ Some (length word)
@@ -117,10 +100,3 @@ character_is n (c ∷ cs) h =
       ]
       | inr w ↦ let z : Some 1 ≡ Some n = w.1 in let k : n ≡ 1 = cc in rw k (record { is = rw w.0 refl; within = omega arith })
     ]
-
-pub no_bad_in_character : (word more : List ℕ) → is_character word ≡ true → bad_in_character (word ++ more) ≡ None
-no_bad_in_character [] more h = absurd cc
-no_bad_in_character (c ∷ []) [] h = rw (not-true _ h) refl
-no_bad_in_character (c ∷ []) (d ∷ ds) h = rw (not-true _ h) refl
-no_bad_in_character (c ∷ d ∷ []) more h = let a = and_true (eqb c 92) (is_escape d) h in rw (a.0, a.1) refl
-no_bad_in_character (c ∷ d ∷ e ∷ cs) more h = absurd cc

@@ -1,7 +1,6 @@
 -- Steps of the loops over what stands between quotes.
-use Rattle.std.proofs.Common.{◌≡◌, ℕ, zero, suc, ◌+◌, ◌-◌, ◌*◌, ◌<◌, ◌≤◌, Bool, true, false, List, [], ◌∷◌, ◌++◌, length, get_or, take, drop, Option, Some, None, refl, ap, sym, subst, ◌∙◌, arith, add-one, inl, inr, append_assoc}
-use Rattle.std.proofs.Math.Dec.{eqb}
-use Rattle.std.proofs.lemmas.Bool.{eqb-true, eq-eqb, ne_eqb, cases_lt}
+use Rattle.std.proofs.Common.{◌≡◌, ℕ, ◌+◌, ◌<◌, ◌≤◌, true, false, List, [], ◌∷◌, ◌++◌, length, get_or, drop, Option, Some, None, refl, ap, sym, ◌∙◌, arith, inl, inr, append_assoc}
+use Rattle.std.proofs.lemmas.Bool.{eq-eqb, ne_eqb, cases_lt}
 use Rattle.std.proofs.lemmas.List.{length-drop}
 use Rattle.std.specs.Prelude.{◌⊎◌}
 use Rattle.erl_tree.specs.Lexis.{is_escape, escape_value, unquoted}
@@ -32,15 +31,17 @@ two_more close bad quote i text h s f =
     let more = escaped (i + 1) text f in
     let two : drop (i + 2) text ≡ drop (i + 1 + 1) text = ap (λ (k : ℕ). drop k text) (add i) in
     let e : quoted_walk close bad quote (drop i text) ≡ further 2 (quoted_walk close bad quote (drop (i + 2) text)) =
-        ap (quoted_walk close bad quote) (first_of i text h ∙ ap (λ (l : List ℕ). get_or text i 0 ∷ l) (first_of (i + 1) text more.0))
-        ∙ (walk_escape close bad quote (get_or text i 0) (get_or text (i + 1) 0) (drop (i + 1 + 1) text) (eq-eqb _ _ s) more.1 ∙ ap (λ (l : List ℕ). further 2 (quoted_walk close bad quote l)) (sym two)) in
+    ap (quoted_walk close bad quote) (first_of i text h ∙ ap (λ (l : List ℕ). get_or text i 0 ∷ l) (first_of (i + 1) text more.0))
+    ∙ (walk_escape close bad quote (get_or text i 0) (get_or text (i + 1) 0) (drop (i + 1 + 1) text) (eq-eqb _ _ s) more.1 ∙ ap (λ (l : List ℕ). further 2 (quoted_walk close bad quote l)) (sym two)) in
     sym (ap (further i) e ∙ further_further i 2 (quoted_walk close bad quote (drop (i + 2) text)))
   where
     add : (i : ℕ) → i + 2 ≡ i + 1 + 1
     add i = omega arith
+
     by : (k : ℕ) (text rest : List ℕ) → drop k text ≡ rest → first_is is_escape rest ≡ true → (k < length text → drop k text ≡ get_or text k 0 ∷ drop (k + 1) text) → (length text ≤ k → drop k text ≡ []) → ((k < length text) ⊎ (length text ≤ k)) → (k < length text) × (is_escape (get_or text k 0) ≡ true)
     by k text rest e f some none (inl l) = (l, let z : first_is is_escape (get_or text k 0 ∷ drop (k + 1) text) ≡ true = ap (first_is is_escape) (sym (some l) ∙ e) ∙ f in z)
     by k text rest e f some none (inr l) = absurd (let z : first_is is_escape [] ≡ true = ap (first_is is_escape) (sym (none l) ∙ e) ∙ f in cc)
+
     escaped : (k : ℕ) (text : List ℕ) → first_is is_escape (drop k text) ≡ true → (k < length text) × (is_escape (get_or text k 0) ≡ true)
     escaped k text f = by k text (drop k text) refl f (first_of k text) (none_of k text) (cases_lt k (length text))
 

@@ -1,8 +1,7 @@
 -- Runs over the front of a text, one character at a time.
-use Rattle.std.proofs.Common.{◌≡◌, ℕ, zero, suc, ◌+◌, ◌-◌, ◌*◌, ◌<◌, ◌≤◌, Bool, true, false, List, [], ◌∷◌, length, get_or, take, drop, refl, ap, ◌∙◌, arith, add-one, drop-cons, inl, inr}
+use Rattle.std.proofs.Common.{◌≡◌, ℕ, zero, suc, ◌+◌, ◌<◌, ◌≤◌, Bool, true, false, List, [], ◌∷◌, length, get_or, take, drop, refl, ap, ◌∙◌, arith, add-one, drop-cons, inl, inr}
 use Rattle.erl_tree.specs.declared.token.Place.{Place}
 use Rattle.erl_tree.specs.Lexis.{is_white, IsGap}
-use Rattle.erl_tree.specs.Profile.{further}
 use Rattle.erl_lexer.specs.Scan.{run, gap_run, bytes_after, byte_step}
 use Rattle.erl_tree.proofs.TokenTexts.{NoGap}
 use Rattle.std.proofs.lemmas.Bool.{eqb-true}
@@ -74,4 +73,3 @@ pub ruleset runs = (run_step, run_stop, run_end)
 pub ruleset gaps = (gap_white, gap_opens, gap_stops, gap_in, gap_closes, gap_end)
 
 pub ruleset afters = (after_step, after_end)
-

@@ -1,26 +1,25 @@
 -- What stands at the front of a text is read from its UTF-8: lengths of tokens, places, forms outside of the profile and bad escapes.
-use Rattle.std.proofs.Common.{◌≡◌, ◌≢◌, ℕ, zero, suc, ◌+◌, ◌-◌, ◌*◌, ◌<◌, ◌≤◌, Bool, true, false, List, [], ◌∷◌, ◌++◌, length, take, drop, Option, Some, None, refl, ap, sym, subst, ◌∙◌, append_assoc, arith, inl, inr}
-use Rattle.std.specs.Prelude.{◌⊎◌, ◌&&◌, ◌||◌, not, if◌then◌else◌, nat_le, ◌==◌, codes}
+use Rattle.std.proofs.Common.{◌≡◌, ℕ, zero, suc, ◌+◌, ◌-◌, ◌*◌, ◌<◌, ◌≤◌, Bool, true, false, List, [], ◌∷◌, ◌++◌, length, take, Option, Some, None, refl, ap, sym, subst, ◌∙◌, arith, inl, inr}
+use Rattle.std.specs.Prelude.{◌⊎◌, ◌&&◌, ◌||◌, not, if◌then◌else◌, nat_le, codes}
 use Rattle.std.specs.List.{list_any}
 use Rattle.std.specs.Str.{bytes_eq}
 use Rattle.std.proofs.Math.Dec.{eqb, leb}
-use Rattle.std.proofs.lemmas.Bool.{eqb-true, cases_lt, cases_Bool, le-leb, lt-leb, and_parts, or_cases, or_parts, leb-true, leb-false, false_from_ne_true}
+use Rattle.std.proofs.lemmas.Bool.{eqb-true, cases_lt, cases_Bool, le-leb, or_cases, leb-true, false_from_ne_true}
 use Rattle.std.proofs.lemmas.Bool.Decides.{nat_tests}
 use Rattle.std.proofs.lemmas.Slice.Eq.{bytes_eq-Decides}
-use Rattle.std.proofs.lemmas.List.{length-append, length-take}
-use Rattle.std.proofs.lemmas.Str.{encode_ascii}
+use Rattle.std.proofs.lemmas.List.{length-take}
 use lib.Utf8.{encode, encodes}
 use Rattle.erl_tree.specs.declared.token.Place.{Place}
-use Rattle.erl_tree.specs.Lexis.{is_lower, is_upper, is_white, is_digit, is_digit_of, is_escape, is_mark, marks, is_name, after, step}
+use Rattle.erl_tree.specs.Lexis.{is_lower, is_upper, is_digit, is_digit_of, is_mark, marks, is_name, after, step}
 use Rattle.erl_tree.specs.Profile.{further, bad_escape, bad_in_quotes, bad_in_character, is_float, begins, outside_form}
 use Rattle.erl_tree.proofs.TokenTexts.{chosen, and_true}
 use Rattle.erl_lexer.specs.Scan.{run, first_is, is_continuation, byte_step, bytes_after, grouped_run, based_run, or_else, integer_length, quoted_run, character_run, character_bytes, mark_length, some_length, length_by, form_by}
-use Rattle.erl_lexer.proofs.Encoded.{IsWide, wide, high, AreHigh, AreContinuations, IsAsciiTest, encodes_low, first_same, run_same, bytes_of, sized, AreAscii, encodes_ascii, ascii_by}
+use Rattle.erl_lexer.proofs.Encoded.{wide, AreContinuations, IsAsciiTest, encodes_low, first_same, run_same, bytes_of, sized, AreAscii, encodes_ascii, ascii_by}
 use Rattle.erl_lexer.proofs.IntegerTexts.{further_is, integer_is}
 use Rattle.erl_lexer.proofs.Marks.{mark_is}
 use Rattle.erl_lexer.proofs.Texts.{run_le, Kind, kind, IsOther, length_lower, length_upper, length_digit, length_atom, length_string, length_character, length_mark, bad_atom, bad_string, bad_character, bad_other}
 use Rattle.erl_lexer.proofs.Texts.Kind.{Lower, Upper, Digit, Atom, String, Character_mark, Other}
-use Rattle.erl_lexer.proofs.Walks.{digit_ascii, name_ascii, white_ascii, digit_of_ascii, is_not, bytes_of_low, bytes_of_more, sized_low, bad_same, quoted_same, character_same, bad_character_same}
+use Rattle.erl_lexer.proofs.Walks.{digit_ascii, name_ascii, digit_of_ascii, is_not, bytes_of_low, sized_low, bad_same, quoted_same, character_same, bad_character_same}
 
 -- ---- integers
 
@@ -244,30 +243,39 @@ bad_low c cs l (Lower k) = none_at c cs (lower_39 c k) (lower_34 c k) (lower_36 
   where
     lower_39 : (c : ℕ) → is_lower c ≡ true → eqb c 39 ≡ false
     lower_39 c k = grind (arith, nat_tests)
+
     lower_34 : (c : ℕ) → is_lower c ≡ true → eqb c 34 ≡ false
     lower_34 c k = grind (arith, nat_tests)
+
     lower_36 : (c : ℕ) → is_lower c ≡ true → eqb c 36 ≡ false
     lower_36 c k = grind (arith, nat_tests)
+
     none_at : (c : ℕ) (cs : List ℕ) → eqb c 39 ≡ false → eqb c 34 ≡ false → eqb c 36 ≡ false → bad_escape (c ∷ encodes cs) ≡ sized (bad_escape (c ∷ cs)) (c ∷ cs)
     none_at c cs a s m = bad_other c _ a s m ∙ ap (λ (o : Option ℕ). sized o (c ∷ cs)) (sym (bad_other c cs a s m))
 bad_low c cs l (Upper k u) = none_at c cs (upper_39 c u) (upper_34 c u) (upper_36 c u)
   where
     upper_39 : (c : ℕ) → is_upper c ≡ true → eqb c 39 ≡ false
     upper_39 c k = grind (arith, nat_tests)
+
     upper_34 : (c : ℕ) → is_upper c ≡ true → eqb c 34 ≡ false
     upper_34 c k = grind (arith, nat_tests)
+
     upper_36 : (c : ℕ) → is_upper c ≡ true → eqb c 36 ≡ false
     upper_36 c k = grind (arith, nat_tests)
+
     none_at : (c : ℕ) (cs : List ℕ) → eqb c 39 ≡ false → eqb c 34 ≡ false → eqb c 36 ≡ false → bad_escape (c ∷ encodes cs) ≡ sized (bad_escape (c ∷ cs)) (c ∷ cs)
     none_at c cs a s m = bad_other c _ a s m ∙ ap (λ (o : Option ℕ). sized o (c ∷ cs)) (sym (bad_other c cs a s m))
 bad_low c cs l (Digit k u d) = none_at c cs (digit_39 c d) (digit_34 c d) (digit_36 c d)
   where
     digit_39 : (c : ℕ) → is_digit c ≡ true → eqb c 39 ≡ false
     digit_39 c k = grind (arith, nat_tests)
+
     digit_34 : (c : ℕ) → is_digit c ≡ true → eqb c 34 ≡ false
     digit_34 c k = grind (arith, nat_tests)
+
     digit_36 : (c : ℕ) → is_digit c ≡ true → eqb c 36 ≡ false
     digit_36 c k = grind (arith, nat_tests)
+
     none_at : (c : ℕ) (cs : List ℕ) → eqb c 39 ≡ false → eqb c 34 ≡ false → eqb c 36 ≡ false → bad_escape (c ∷ encodes cs) ≡ sized (bad_escape (c ∷ cs)) (c ∷ cs)
     none_at c cs a s m = bad_other c _ a s m ∙ ap (λ (o : Option ℕ). sized o (c ∷ cs)) (sym (bad_other c cs a s m))
 

@@ -1,5 +1,5 @@
 -- What is found at the front of a text is the text of a token, and no other is longer.
-use Rattle.std.proofs.Common.{◌≡◌, ℕ, zero, suc, ◌+◌, ◌≤◌, subst, Bool, true, false, List, [], ◌∷◌, ◌++◌, length, take, drop, Option, Some, None, refl, ap, sym, ◌∙◌, append_assoc, arith, inl, inr}
+use Rattle.std.proofs.Common.{◌≡◌, ℕ, zero, suc, ◌+◌, ◌≤◌, subst, Bool, true, false, List, [], ◌∷◌, ◌++◌, length, take, drop, Option, Some, None, refl, ap, sym, ◌∙◌, arith, inl, inr}
 use Rattle.std.specs.Prelude.{◌||◌, if◌then◌else◌}
 use Rattle.std.proofs.Math.Dec.{eqb}
 use Rattle.std.proofs.lemmas.Bool.{eqb-true}
@@ -7,11 +7,11 @@ use Rattle.std.proofs.lemmas.List.{take-append-drop, length-take}
 use Rattle.erl_tree.specs.declared.token.Token.{Token}
 use Rattle.erl_tree.specs.Lexis.{every, is_lower, is_upper, is_digit, is_name, is_mark, is_quoted, is_character, is_grouped, is_based, is_token_text, IsLongest, token_of}
 use Rattle.erl_tree.specs.Profile.{further, bad_escape, bad_in_quotes, bad_in_character}
-use Rattle.erl_tree.proofs.TokenTexts.{chosen, and_true, token_is_text}
-use Rattle.erl_lexer.specs.Scan.{run, first_is, integer_length, quoted_run, character_run, mark_length, some_length, length_by}
+use Rattle.erl_tree.proofs.TokenTexts.{and_true, token_is_text}
+use Rattle.erl_lexer.specs.Scan.{run, integer_length, quoted_run, character_run, mark_length, some_length, length_by}
 use Rattle.erl_lexer.proofs.Marks.{mark_is, mark_covers}
 use Rattle.erl_lexer.proofs.IntegerTexts.{integer_covers, integer_is, integer_some, further_is, some_is}
-use Rattle.erl_lexer.proofs.QuotedTexts.{quoted_covers, quoted_is, no_bad_in_quotes, character_covers, character_is, no_bad_in_character}
+use Rattle.erl_lexer.proofs.QuotedTexts.{quoted_covers, quoted_is, character_covers, character_is}
 
 -- ---- runs
 
@@ -263,7 +263,7 @@ none_there text word more t h e g =
     let z : None ≡ Some r.length = sym h ∙ (ap (length_by character_run) e ∙ r.is) in
     cc
 
--- ---- where a text of a token begins, no escape is bad
+-- ---- bad escapes, by the first character
 
 pub bad_atom : (cs : List ℕ) → bad_escape (39 ∷ cs) ≡ further 1 (bad_in_quotes 39 cs)
 unfolding bad_escape

@@ -1,18 +1,18 @@
 -- The token of a text is read from its UTF-8.
-use Rattle.std.proofs.Common.{◌≡◌, ℕ, zero, suc, ◌+◌, ◌-◌, ◌*◌, ◌/◌, ◌%◌, ◌<◌, ◌≤◌, Bool, true, false, cond, List, [], ◌∷◌, ◌++◌, length, take, drop, Option, Some, None, refl, ap, sym, subst, ◌∙◌, append_assoc, arith, inl, inr, append-nil}
-use Rattle.std.specs.Prelude.{◌⊎◌, ◌&&◌, ◌||◌, not, if◌then◌else◌, nat_le, ◌==◌, codes, pos}
+use Rattle.std.proofs.Common.{◌≡◌, ℕ, ◌+◌, ◌-◌, ◌*◌, ◌/◌, ◌%◌, ◌<◌, ◌≤◌, Bool, true, false, cond, List, [], ◌∷◌, ◌++◌, length, Some, refl, ap, sym, ◌∙◌, arith, inl, inr, append-nil}
+use Rattle.std.specs.Prelude.{◌&&◌, ◌||◌, not, if◌then◌else◌, nat_le, codes, pos}
 use Rattle.std.specs.Str.{bytes_eq}
 use Rattle.std.proofs.Math.Dec.{eqb, leb, ltb}
-use Rattle.std.proofs.lemmas.Bool.{eqb-true, cases_lt, cases_Bool, not-true, or_cases, le-ltb, ltb-true, ltb-false}
+use Rattle.std.proofs.lemmas.Bool.{eqb-true, cases_lt, or_cases, le-ltb}
 use Rattle.std.proofs.lemmas.Bool.Decides.{nat_tests}
-use Rattle.std.proofs.lemmas.Str.{encode_ascii, length-le-encodes}
+use Rattle.std.proofs.lemmas.Str.{length-le-encodes}
 use lib.Utf8.{encode, encodes}
 use Rattle.erl_tree.specs.declared.token.Token.{Token}
 use Rattle.erl_tree.specs.declared.token.Token.TheVariants as T
-use Rattle.erl_tree.specs.Lexis.{every, is_lower, is_upper, is_white, is_digit, is_digit_of, is_escape, is_mark, is_name, is_quoted, is_character, is_grouped, goes_on_grouped, is_based, is_token_text, integer_value, escape_value, unquoted, character_value, name_token, mark_token, ends_form, when, token_of}
+use Rattle.erl_tree.specs.Lexis.{every, is_lower, is_upper, is_digit, is_digit_of, is_escape, is_mark, is_name, is_quoted, is_character, is_grouped, goes_on_grouped, is_based, is_token_text, integer_value, escape_value, unquoted, character_value, name_token, mark_token, ends_form, when, token_of}
 use Rattle.erl_tree.proofs.TokenTexts.{chosen, and_true}
-use Rattle.erl_lexer.specs.Scan.{code_of, token_by, first_is}
-use Rattle.erl_lexer.proofs.Encoded.{IsWide, wide, high, AreHigh, IsAsciiTest, encodes_low, first_same, AreAscii, encodes_ascii, ascii_by}
+use Rattle.erl_lexer.specs.Scan.{code_of, token_by}
+use Rattle.erl_lexer.proofs.Encoded.{wide, high, AreHigh, IsAsciiTest, encodes_low, AreAscii, encodes_ascii, ascii_by}
 use Rattle.erl_lexer.proofs.Texts.{Kind, kind, IsOther, text_lower, text_upper, text_digit, text_atom, text_string, text_character, text_mark, empty_text}
 use Rattle.erl_lexer.proofs.Texts.Kind.{Lower, Upper, Digit, Atom, String, Character_mark, Other}
 use Rattle.erl_lexer.proofs.Walks.{digit_ascii, name_ascii, white_ascii, escape_ascii, digit_of_ascii, is_not}
@@ -27,12 +27,13 @@ every_low p (c ∷ cs) t h = let w = and_true (p c) (every p cs) h in (ascii_by 
 grouped_text_low : (digit : ℕ → Bool) (cs : List ℕ) → IsAsciiTest digit → (goes_on_grouped digit cs ≡ true → AreAscii cs) × (is_grouped digit cs ≡ true → AreAscii cs)
 grouped_text_low digit [] t = (λ h. tt, λ h. tt)
 grouped_text_low digit (c ∷ cs) t =
-    let r = grouped_text_low digit cs t in
-    (λ h. elim (chosen (eqb c 95) (is_grouped digit cs) (digit c && goes_on_grouped digit cs) true h) [
-      | inl w ↦ let k : c ≡ 95 = eqb-true c 95 w.0 in (omega arith, r.1 w.1)
-      | inr w ↦ let a = and_true (digit c) (goes_on_grouped digit cs) w.1 in (ascii_by digit c t a.0, r.0 a.1)
-    ],
-    λ h. let a = and_true (digit c) (goes_on_grouped digit cs) h in (ascii_by digit c t a.0, r.0 a.1))
+    let r = grouped_text_low digit cs t in (
+      λ h. elim (chosen (eqb c 95) (is_grouped digit cs) (digit c && goes_on_grouped digit cs) true h) [
+        | inl w ↦ let k : c ≡ 95 = eqb-true c 95 w.0 in (omega arith, r.1 w.1)
+        | inr w ↦ let a = and_true (digit c) (goes_on_grouped digit cs) w.1 in (ascii_by digit c t a.0, r.0 a.1)
+      ],
+      λ h. let a = and_true (digit c) (goes_on_grouped digit cs) h in (ascii_by digit c t a.0, r.0 a.1),
+    )
 
 based_text_low : (base : ℕ) (cs : List ℕ) → is_based base cs ≡ true → AreAscii cs
 based_text_low base [] h = tt

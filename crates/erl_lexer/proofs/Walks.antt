@@ -1,20 +1,17 @@
 -- Lengths in a text and in its UTF-8: gaps, integers, quoted texts, characters and marks.
-use Rattle.std.proofs.Common.{◌≡◌, ◌≢◌, ℕ, zero, suc, ◌+◌, ◌-◌, ◌*◌, ◌<◌, ◌≤◌, Bool, true, false, List, [], ◌∷◌, ◌++◌, length, take, drop, Option, Some, None, refl, ap, sym, subst, ◌∙◌, append_assoc, arith, inl, inr}
-use Rattle.std.specs.Prelude.{◌⊎◌, ◌&&◌, ◌||◌, not, if◌then◌else◌, nat_le, ◌==◌, codes}
+use Rattle.std.proofs.Common.{◌≡◌, ℕ, zero, suc, ◌+◌, ◌<◌, ◌≤◌, Bool, true, false, List, [], ◌∷◌, ◌++◌, length, take, Option, Some, None, refl, ap, sym, ◌∙◌, arith, inl, inr}
+use Rattle.std.specs.Prelude.{◌&&◌, not, if◌then◌else◌, codes}
 use Rattle.std.specs.List.{list_any}
-use Rattle.std.specs.Str.{bytes_eq}
 use Rattle.std.proofs.Math.Dec.{eqb, leb}
-use Rattle.std.proofs.lemmas.Bool.{eqb-true, cases_lt, cases_Bool, le-leb, lt-leb, and_right, or_cases, or_parts}
+use Rattle.std.proofs.lemmas.Bool.{cases_lt, cases_Bool, le-leb, lt-leb, or_parts}
 use Rattle.std.proofs.lemmas.Bool.Decides.{nat_tests}
-use Rattle.std.proofs.lemmas.Slice.Eq.{bytes_eq-Decides}
 use Rattle.std.proofs.lemmas.List.{length-append}
 use Rattle.std.proofs.lemmas.Str.{encode_ascii}
 use lib.Utf8.{encode, encodes}
-use Rattle.erl_tree.specs.Lexis.{is_white, is_digit, is_digit_of, is_escape, is_mark, marks, is_name}
+use Rattle.erl_tree.specs.Lexis.{is_white, is_digit, is_digit_of, is_escape, is_name}
 use Rattle.erl_tree.specs.Profile.{further, bad_in_quotes, bad_in_character}
-use Rattle.erl_tree.proofs.TokenTexts.{chosen, and_true, or_true}
-use Rattle.erl_lexer.specs.Scan.{run, gap_run, first_is, is_continuation, grouped_run, based_run, or_else, integer_length, quoted_walk, quoted_run, character_run, character_bytes, mark_length}
-use Rattle.erl_lexer.proofs.Encoded.{IsWide, wide, high, AreHigh, AreContinuations, IsAsciiTest, encodes_low, first_same, run_same, bytes_of, sized, AreAscii, encodes_ascii, ascii_by}
+use Rattle.erl_lexer.specs.Scan.{run, gap_run, first_is, is_continuation, quoted_walk, quoted_run, character_run, character_bytes}
+use Rattle.erl_lexer.proofs.Encoded.{wide, high, AreHigh, AreContinuations, IsAsciiTest, encodes_low, first_same, bytes_of, sized, ascii_by}
 
 -- ---- tests that no byte of 128 and more passes
 
@@ -87,15 +84,17 @@ gap_bytes [] = (refl, refl)
 gap_bytes (c ∷ cs) =
     let r = gap_bytes cs in
     elim (cases_lt c 128) [
-      | inl l ↦
-          (ap (gap_run false) (encodes_low c cs l) ∙ gap_low_false c cs (is_white c) (eqb c 37) refl refl l r.0 r.1,
-          ap (gap_run true) (encodes_low c cs l) ∙ gap_low_true c cs (eqb c 10) refl l r.0 r.1)
+      | inl l ↦ (
+        ap (gap_run false) (encodes_low c cs l) ∙ gap_low_false c cs (is_white c) (eqb c 37) refl refl l r.0 r.1,
+        ap (gap_run true) (encodes_low c cs l) ∙ gap_low_true c cs (eqb c 10) refl l r.0 r.1,
+      )
       | inr h ↦
           let w = wide c h in
           let none : gap_run false (encode c ++ encodes cs) ≡ 0 = rw w.is (stop_gap w.first (w.others ++ encodes cs) (omega (arith, w.above))) in
-          let whole : gap_run true (c ∷ cs) ≡ suc (gap_run true cs) = rw (is_not 10 c (omega arith) h) refl in
-          (none ∙ ap (λ (n : ℕ). bytes_of n (c ∷ cs)) (sym (stop_gap c cs h)),
-          high_gap (encode c) (encodes cs) (high c h) ∙ (ap (λ (n : ℕ). length (encode c) + n) r.1 ∙ (sym (bytes_of_more c (gap_run true cs) cs) ∙ ap (λ (n : ℕ). bytes_of n (c ∷ cs)) (sym whole))))
+          let whole : gap_run true (c ∷ cs) ≡ suc (gap_run true cs) = rw (is_not 10 c (omega arith) h) refl in (
+            none ∙ ap (λ (n : ℕ). bytes_of n (c ∷ cs)) (sym (stop_gap c cs h)),
+            high_gap (encode c) (encodes cs) (high c h) ∙ (ap (λ (n : ℕ). length (encode c) + n) r.1 ∙ (sym (bytes_of_more c (gap_run true cs) cs) ∙ ap (λ (n : ℕ). bytes_of n (c ∷ cs)) (sym whole))),
+          )
     ]
 
 -- ---- a number of characters behind others
@@ -239,6 +238,7 @@ first_no_continuation (c ∷ cs) = elim (cases_lt c 128) [
   where
     low : (c : ℕ) → c < 128 → is_continuation c ≡ false
     low c l = grind (arith, nat_tests)
+
     above : (c : ℕ) → 192 ≤ c → is_continuation c ≡ false
     above c l = grind (arith, nat_tests)
 

@@ -1,5 +1,5 @@
 -- What is found at the place of a token, by the bytes from there on.
-use Rattle.std.specs.Prelude.{◌≡◌, ℕ, List, take, drop, Option, Some, None, Result, Ok, Err}
+use Rattle.std.specs.Prelude.{◌≡◌, ℕ, List, take, drop, Some, None, Result, Ok, Err}
 use Rattle.erl_tree.specs.declared.token.Place.{Place}
 use Rattle.erl_tree.specs.declared.token.Token.{Token}
 use Rattle.erl_tree.specs.Limits.{IsAboveLimit, IsInLimit}

@@ -1,12 +1,12 @@
 -- Lengths of gaps and of tokens' texts at the front of a text, from left to right, and the token of a text. In bytes, where nothing else is said.
-use Rattle.std.specs.Prelude.{◌≡◌, ℕ, zero, suc, ◌+◌, ◌-◌, ◌*◌, pos, List, [], ◌∷◌, length, take, drop, Option, Some, None, Bool, true, false, not, nat_le, ◌==◌, ◌&&◌, ◌||◌, if◌then◌else◌, codes}
+use Rattle.std.specs.Prelude.{ℕ, zero, suc, ◌+◌, ◌-◌, ◌*◌, pos, List, [], ◌∷◌, length, take, Option, Some, None, Bool, true, false, not, nat_le, ◌==◌, ◌&&◌, ◌||◌, if◌then◌else◌, codes}
 use Rattle.erl_tree.specs.declared.token.Place.{Place}
 use Rattle.erl_tree.specs.declared.token.Token.{Token}
 use Rattle.erl_tree.specs.declared.token.Token.TheVariants.{Atom, Var, Int, Char, Str, End}
 use Rattle.erl_tree.specs.Lexis.{is_lower, is_upper, is_digit, is_digit_of, is_name, is_white, is_escape, is_mark, name_token, mark_token, integer_value, unquoted, escape_value}
 use Rattle.erl_tree.specs.Profile.{further, bad_in_quotes, bad_in_character}
 use Rattle.erl_lexer.specs.declared.quotes.Quoted.{Quoted}
-use Rattle.erl_lexer.specs.declared.quotes.Quoted.TheVariants.{Closed, Bad, Open}
+use Rattle.erl_lexer.specs.declared.quotes.Quoted.TheVariants.{Closed, Bad}
 
 -- how many characters at the front are so
 abbrev pub run : (ℕ → Bool) → List ℕ → ℕ

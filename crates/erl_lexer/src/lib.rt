@@ -13,9 +13,9 @@ mod tokens;
 ghost use Rattle.std.specs.Prelude.{◌≡◌};
 
 pub use characters::is_reserved;
-pub use tokens::lex;
 use erl_tree::Place;
 use std::alloc::AllocError;
+pub use tokens::lex;
 use type_terms::{NoMemory, Text};
 
 /// Why lexing gives no tokens: the first fault in the text. Lines and columns count from 1.
@@ -54,3 +54,6 @@ impl From<NoMemory> for LexFault {
         LexFault::NoMemory
     }
 }
+
+#[cfg(test)]
+mod tests;

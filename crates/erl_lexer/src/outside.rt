@@ -126,13 +126,7 @@ fn bad_in_character(text: &[u8]) -> Option<usize>
 {
     match text {
         [92] => Some(0),
-        [92, d, ..] => {
-            if is_escape(*d) {
-                None
-            } else {
-                Some(0)
-            }
-        }
+        [92, d, ..] => { if is_escape(*d) { None } else { Some(0) } }
         _ => None,
     }
 }

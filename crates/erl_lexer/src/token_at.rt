@@ -155,7 +155,13 @@ fn code_of(text: &[u8]) -> u32
 }
 
 /// The quoted token, character or mark with this text, whose first character is `c`.
-fn other_token(alloc: Global, c: u8, rest: &[u8], text: &[u8], follow: &[u8]) -> Result<Token, AllocError>
+fn other_token(
+    alloc: Global,
+    c: u8,
+    rest: &[u8],
+    text: &[u8],
+    follow: &[u8],
+) -> Result<Token, AllocError>
     requires { text.now ≡ c ∷ rest.now }
     ensures value { IfOk result (λ t. t ≡ scan.other_token c rest.now follow.now) }
     ensures limit { IfOk result IsInLimit }

@@ -1,4 +1,4 @@
-use Rattle.std.proofs.Common.{◌≡◌, ◌≤◌, ◌-◌, ◌+◌, length, drop}
+use Rattle.std.proofs.Common.{◌≡◌, ◌≤◌, ◌-◌, length, drop}
 use Rattle.erl_tree.specs.Profile.{further}
 use Rattle.erl_lexer.specs.Scan.{based_run}
 use Rattle.erl_lexer.proofs.integers.based_length.Given as goal

@@ -1,4 +1,4 @@
-use Rattle.std.proofs.Common.{◌∙◌, ap, sym, arith}
+use Rattle.std.proofs.Common.{◌∙◌, sym, arith}
 use Rattle.erl_lexer.proofs.Digits.{value_plain, has_base, value_parts, base_is}
 use Rattle.erl_lexer.proofs.integers.integer_value.Goals as goal
 

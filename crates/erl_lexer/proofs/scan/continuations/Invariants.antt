@@ -1,5 +1,4 @@
 use Rattle.std.proofs.Common.{◌≡◌, ◌≤◌, ◌-◌, ◌+◌, length, drop}
-
 use Rattle.erl_lexer.specs.Scan.{run, is_continuation}
 use Rattle.erl_lexer.proofs.scan.continuations.Given as goal
 
