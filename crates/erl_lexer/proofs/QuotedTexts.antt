@@ -4,7 +4,7 @@ use Rattle.std.specs.Prelude.{◌&&◌, not, if◌then◌else◌}
 use Rattle.std.proofs.Math.Dec.{eqb}
 use Rattle.std.proofs.lemmas.Bool.{eqb-true, not-true}
 use Rattle.erl_tree.specs.Lexis.{is_escape, is_quoted, is_character}
-use Rattle.erl_tree.specs.Profile.{further, bad_in_quotes, bad_in_character}
+use Rattle.erl_tree.specs.Profile.{further}
 use Rattle.erl_tree.proofs.TokenTexts.{chosen, and_true}
 use Rattle.erl_lexer.specs.Scan.{first_is, quoted_run, character_run}
 use Rattle.erl_lexer.proofs.IntegerTexts.{further_is}

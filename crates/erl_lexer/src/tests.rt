@@ -231,7 +231,13 @@ fn quoted_tokens(rt: HostRuntime) {
         ),
         (1, 27, b'e', b"", 0),
     ];
-    assert!(rt; gives(alloc, b"\"\\n\\r\\t\\s\\b\\d\\e\\f\\v\\\\\\'\\\"\"", &escapes));
+    assert!(rt;
+        gives(
+            alloc,
+            b"\"\\n\\r\\t\\s\\b\\d\\e\\f\\v\\\\\\'\\\"\"",
+            &escapes
+        )
+    );
     let empty: [Wanted; 3] = [
         (1, 1, b's', b"", 0),
         (1, 3, b'a', b"", 0),
@@ -303,8 +309,26 @@ fn faults_at_their_places(rt: HostRuntime) {
     assert!(rt; refuses(alloc, b"$\\q", b'e', 1, 2, b""));
     assert!(rt; refuses(alloc, b"a ^", b't', 1, 3, b""));
     assert!(rt; refuses(alloc, b"\x00", b't', 1, 1, b""));
-    assert!(rt; refuses(alloc, b"170141183460469231731687303715884105727", b'w', 1, 1, b""));
-    assert!(rt; refuses(alloc, b"1 16#80000000000000000000000000000000", b'w', 1, 3, b""));
+    assert!(rt;
+        refuses(
+            alloc,
+            b"170141183460469231731687303715884105727",
+            b'w',
+            1,
+            1,
+            b""
+        )
+    );
+    assert!(rt;
+        refuses(
+            alloc,
+            b"1 16#80000000000000000000000000000000",
+            b'w',
+            1,
+            3,
+            b""
+        )
+    );
     assert!(rt; refuses(alloc, b"a ! \"\\q\"", b'o', 1, 3, b"send"));
 }
 
