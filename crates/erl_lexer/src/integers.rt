@@ -16,7 +16,7 @@ const INTEGER_LIMIT: u128 = 170141183460469231731687303715884105726;
 const GREATEST_BASE: u128 = 36;
 
 /// Whether the text begins with a digit of this base.
-pub(crate) fn begins_digit(base: u128, text: &[u8]) -> bool
+fn begins_digit(base: u128, text: &[u8]) -> bool
     requires { base ≤ 36 }
     ensures { result ≡ first_is (lexis.is_digit_of base) text.now }
 {
@@ -37,7 +37,7 @@ fn goes_on(base: u128, c: u8, follow: &[u8]) -> bool
 
 /// How many characters at the front are digits of this base, with single underscores between them.
 #[tactic(auto, using(crate::proofs::Digits::groups, std::proofs::lemmas::Grind::common_steps))]
-pub(crate) fn grouped_length(base: u128, text: &[u8]) -> usize
+fn grouped_length(base: u128, text: &[u8]) -> usize
     requires { base ≤ 36 }
     ensures value { result ≡ grouped_run (lexis.is_digit_of base) text.now }
     ensures within { result ≤ length text.now }
@@ -75,7 +75,7 @@ fn hashed_length(base: u128, digits: &[u8]) -> Option<usize>
 }
 
 /// How long the integer with a base at the front is, if there is one.
-pub(crate) fn based_length(text: &[u8]) -> Option<usize>
+fn based_length(text: &[u8]) -> Option<usize>
     ensures value { based_run 0 text.now ≡ result }
     ensures within { IfSome result (λ n. n ≤ length text.now) }
 {
@@ -137,9 +137,9 @@ fn number(base: u128, digits: &[u8]) -> Option<u128>
     Some(number)
 }
 
-/// Where the `#` of an integer is, if it has one.
+/// How many characters stand before the `#` of an integer: all of them, where it has none.
 #[tactic(auto, using(crate::proofs::Digits::hashes, std::proofs::lemmas::Grind::common_steps))]
-fn hash(text: &[u8]) -> usize
+fn length_before_hash(text: &[u8]) -> usize
     ensures value { result ≡ scan.run scan.is_no_hash text.now }
     ensures within { result ≤ length text.now }
 {
@@ -155,7 +155,7 @@ pub(crate) fn integer_value(text: &[u8]) -> Option<u128>
     requires { (lexis.is_grouped lexis.is_digit text.now || lexis.is_based 0 text.now) ≡ true }
     ensures { MatchOption result (integer_limit < lexis.integer_value 0 text.now) (λ n. (n ≡ lexis.integer_value 0 text.now) × (n ≤ integer_limit)) }
 {
-    let at = hash(text);
+    let at = length_before_hash(text);
     if at == text.len() {
         return number(10, text);
     }

@@ -22,7 +22,7 @@ pub(crate) enum Quoted {
     Open,
 }
 
-/// Whether an escape stands there.
+/// Whether the backslash there heads an escape.
 fn is_escape_at(text: &[u8], at: usize) -> bool
     requires { at + 1 ≤ length text.now }
     ensures { result ≡ scan.first_is lexis.is_escape (drop (at + 1) text.now) }
