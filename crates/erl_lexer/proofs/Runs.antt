@@ -1,16 +1,16 @@
 -- Runs over the front of a text, one character at a time.
-use Rattle.std.proofs.Common.{◌≡◌, ℕ, zero, suc, ◌+◌, ◌-◌, ◌*◌, ◌<◌, ◌≤◌, Bool, true, false, List, [], ◌∷◌, length, get_or, take, drop, refl, ap, ◌∙◌, arith, add-one, drop-cons, inl, inr}
+use Rattle.std.proofs.Common.{◌≡◌, ℕ, zero, suc, ◌+◌, ◌<◌, ◌≤◌, Bool, true, false, List, [], ◌∷◌, length, get_or, take, drop, refl, ap, ◌∙◌, arith, add-one, drop-cons, inl, inr}
 use Rattle.erl_tree.specs.declared.token.Place.{Place}
-use Rattle.erl_tree.specs.Lexis.{is_white, IsGap, after, step, decimal}
-use Rattle.erl_lexer.specs.Scan.{run, gap_run}
+use Rattle.erl_tree.specs.Lexis.{is_white, IsGap}
+use Rattle.erl_lexer.specs.Scan.{run, gap_run, bytes_after, byte_step}
 use Rattle.erl_tree.proofs.TokenTexts.{NoGap}
 use Rattle.std.proofs.lemmas.Bool.{eqb-true}
 use Rattle.std.proofs.Math.Dec.{eqb}
 
-first_of : (i : ℕ) (text : List ℕ) → i < length text → drop i text ≡ get_or text i 0 ∷ drop (i + 1) text
+pub first_of : (i : ℕ) (text : List ℕ) → i < length text → drop i text ≡ get_or text i 0 ∷ drop (i + 1) text
 first_of i text h = rw (add-one, drop-cons text i 0) refl
 
-none_of : (i : ℕ) (text : List ℕ) → length text ≤ i → drop i text ≡ []
+pub none_of : (i : ℕ) (text : List ℕ) → length text ≤ i → drop i text ≡ []
 none_of zero [] h = refl
 none_of (suc i) [] h = refl
 none_of zero (c ∷ cs) h = absurd (omega arith)
@@ -62,26 +62,14 @@ pub gap_is : (text : List ℕ) → GapIs false text × GapIs true text
 gap_is [] = (record { gap = tt; ends = tt; within = omega arith }, record { gap = refl; ends = tt; within = omega arith })
 gap_is (c ∷ cs) = let g = gap_is cs in (gap_false c cs (is_white c) (eqb c 37) refl refl g.0 g.1, gap_true c cs (eqb c 10) refl g.0 g.1)
 
-pub after_step : (p : Place) (i : ℕ) (text : List ℕ) → i < length text → after p (drop i text) ≡ after (step p (get_or text i 0)) (drop (i + 1) text)
-after_step p i text h = ap (after p) (first_of i text h)
+pub after_step : (p : Place) (i : ℕ) (text : List ℕ) → i < length text → bytes_after p (drop i text) ≡ bytes_after (byte_step p (get_or text i 0)) (drop (i + 1) text)
+after_step p i text h = ap (bytes_after p) (first_of i text h)
 
-pub after_end : (p : Place) (i : ℕ) (text : List ℕ) → length text ≤ i → after p (drop i text) ≡ p
-after_end p i text h = ap (after p) (none_of i text h)
+pub after_end : (p : Place) (i : ℕ) (text : List ℕ) → length text ≤ i → bytes_after p (drop i text) ≡ p
+after_end p i text h = ap (bytes_after p) (none_of i text h)
 
 pub ruleset runs = (run_step, run_stop, run_end)
 
 pub ruleset gaps = (gap_white, gap_opens, gap_stops, gap_in, gap_closes, gap_end)
 
 pub ruleset afters = (after_step, after_end)
-
-pub decimal_grows : (n : ℕ) (ds : List ℕ) → n ≤ decimal n ds
-decimal_grows n [] = omega arith
-decimal_grows n (d ∷ ds) = omega (arith, decimal_grows (n * 10 + (d - 48)) ds)
-
-pub decimal_step : (n i : ℕ) (ds : List ℕ) → i < length ds → decimal n (drop i ds) ≡ decimal (n * 10 + (get_or ds i 0 - 48)) (drop (i + 1) ds)
-decimal_step n i ds h = ap (decimal n) (first_of i ds h)
-
-pub decimal_end : (n i : ℕ) (ds : List ℕ) → length ds ≤ i → decimal n (drop i ds) ≡ n
-decimal_end n i ds h = ap (decimal n) (none_of i ds h)
-
-pub ruleset decimals = (decimal_step, decimal_end, decimal_grows)

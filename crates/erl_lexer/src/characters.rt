@@ -4,6 +4,7 @@ ghost use Rattle.std.specs.Prelude.{◌≡◌, ◌≤◌};
 ghost use Rattle.std.specs.List.{list_any};
 ghost use Rattle.std.specs.Str.{bytes_eq};
 ghost use Rattle.erl_tree.specs.Lexis as lexis;
+ghost use Rattle.erl_lexer.specs.Scan as scan;
 
 /// Whether the character is one of `a` to `z`.
 pub(crate) fn is_lower(c: u8) -> bool
@@ -49,6 +50,52 @@ pub(crate) fn is_white(c: u8) -> bool
     ensures { result ≡ lexis.is_white c }
 {
     c == 32 || (9 <= c && c <= 13)
+}
+
+/// Whether the byte stands in a character's UTF-8 after the first one.
+pub(crate) fn is_continuation(c: u8) -> bool
+    ensures { result ≡ scan.is_continuation c }
+{
+    128 <= c && c <= 191
+}
+
+/// Whether the character may follow a backslash.
+pub(crate) fn is_escape(c: u8) -> bool
+    ensures { result ≡ lexis.is_escape c }
+{
+    b"nrtsbdefv\\'\"".as_slice().iter().any(|d| c == *d)
+}
+
+/// The character that an escape stands for: line feed, return, tab, space, backspace, delete,
+/// escape, form feed, vertical tab, or the character itself.
+pub(crate) fn escape_value(c: u8) -> u8
+    ensures { result ≡ lexis.escape_value c }
+{
+    match c {
+        b'n' => 10,
+        b'r' => 13,
+        b't' => 9,
+        b's' => 32,
+        b'b' => 8,
+        b'd' => 127,
+        b'e' => 27,
+        b'f' => 12,
+        b'v' => 11,
+        _ => c,
+    }
+}
+
+/// The value of a digit. A letter of either case is 10 and more.
+pub(crate) fn digit_value(c: u8) -> u8
+    ensures { result ≡ lexis.digit_value c }
+{
+    if is_digit(c) {
+        c.saturating_sub(48)
+    } else if is_lower(c) {
+        c.saturating_sub(87)
+    } else {
+        c.saturating_sub(55)
+    }
 }
 
 /// Whether a dot before this text ends a form: before white space, a comment and the end.

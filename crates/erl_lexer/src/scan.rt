@@ -1,15 +1,30 @@
-//! Lengths of gaps and of tokens at the front of a text.
+//! Lengths of gaps, names, characters and marks at the front of a text.
 
-ghost use Rattle.std.specs.Prelude.{◌≡◌, ◌≤◌, ◌<◌, ◌+◌, ℕ, ℤ, pos, false, length, take, MatchOption};
+ghost use Rattle.std.specs.Prelude.{◌≡◌, ◌≤◌, ◌<◌, ◌+◌, ℕ, true, false, length, take, drop, [], ◌∷◌, IfSome, MatchOption};
 ghost use Rattle.erl_tree.specs.Lexis as lexis;
-ghost use Rattle.erl_tree.specs.Limits.{integer_limit};
 ghost use Rattle.erl_lexer.specs.Scan as scan;
-ghost use Rattle.erl_lexer.specs.Scan.{run, gap_run};
+ghost use Rattle.erl_lexer.specs.Scan.{run, gap_run, first_is};
 
-use crate::characters::{is_digit, is_digit_of, is_mark, is_name, is_white};
+use crate::characters::{is_continuation, is_escape, is_mark, is_name, is_white};
 
-/// The greatest integer of a source text, 2 ^ 127 - 2.
-const INTEGER_LIMIT: u128 = 170141183460469231731687303715884105726;
+/// The first character and those after it.
+pub(crate) fn front(text: &[u8]) -> Option<(u8, &[u8])>
+    ensures value { MatchOption result (text.now ≡ []) (λ x. text.now ≡ x.0 ∷ x.1.now) }
+    ensures shorter { IfSome result (λ x. length x.1.now + 1 ≡ length text.now) }
+{
+    match text {
+        [] => None,
+        [first, rest @ ..] => Some((*first, rest)),
+    }
+}
+
+/// The text without so many characters at the front.
+pub(crate) fn behind(text: &[u8], count: usize) -> &[u8]
+    requires { count ≤ length text.now }
+    ensures { result.now ≡ drop count text.now }
+{
+    text.split_at(count).1
+}
 
 /// How many characters at the front may stand in a name.
 #[tactic(auto, using(crate::proofs::Runs::runs, std::proofs::lemmas::Grind::common_steps))]
@@ -24,14 +39,14 @@ pub(crate) fn name_length(text: &[u8]) -> usize
     i
 }
 
-/// How many characters at the front are digits.
+/// How many bytes at the front continue a character.
 #[tactic(auto, using(crate::proofs::Runs::runs, std::proofs::lemmas::Grind::common_steps))]
-pub(crate) fn digits_length(text: &[u8]) -> usize
-    ensures value { result ≡ run lexis.is_digit text.now }
+fn continuations(text: &[u8]) -> usize
+    ensures value { result ≡ run scan.is_continuation text.now }
     ensures within { result ≤ length text.now }
 {
     let mut i = 0;
-    while i < text.len() && is_digit(text[i]) {
+    while i < text.len() && is_continuation(text[i]) {
         i += 1;
     }
     i
@@ -60,8 +75,37 @@ pub(crate) fn gap_length(text: &[u8]) -> usize
     i
 }
 
+/// Whether the text begins with what may follow a backslash.
+pub(crate) fn begins_escape(text: &[u8]) -> bool
+    ensures value { result ≡ first_is lexis.is_escape text.now }
+    ensures some { result ≡ true → 1 ≤ length text.now }
+{
+    match text {
+        [] => false,
+        [c, ..] => is_escape(*c),
+    }
+}
+
+/// How many bytes behind a `$` are a character or an escape, if there is one.
+pub(crate) fn character_length(text: &[u8]) -> Option<usize>
+    ensures value { result ≡ scan.character_bytes text.now }
+    ensures within { IfSome result (λ n. n ≤ length text.now) }
+{
+    let (c, rest) = match front(text) {
+        None => return None,
+        Some(parts) => parts,
+    };
+    if c == 92 {
+        if begins_escape(rest) { Some(2) } else { None }
+    } else if 128 <= c {
+        Some(continuations(rest) + 1)
+    } else {
+        Some(1)
+    }
+}
+
 /// The first characters, at most `count`.
-fn front(text: &[u8], count: usize) -> &[u8]
+fn first_ones(text: &[u8], count: usize) -> &[u8]
     ensures value { result.now ≡ take count text.now }
     ensures within { length result.now ≤ length text.now }
 {
@@ -77,44 +121,17 @@ pub(crate) fn mark_length(text: &[u8]) -> usize
     ensures value { result ≡ scan.mark_length text.now }
     ensures within { result ≤ length text.now }
 {
-    let three = front(text, 3);
+    let three = first_ones(text, 3);
     if is_mark(three) {
         return three.len();
     }
-    let two = front(text, 2);
+    let two = first_ones(text, 2);
     if is_mark(two) {
         return two.len();
     }
-    let one = front(text, 1);
+    let one = first_ones(text, 1);
     if is_mark(one) {
         return one.len();
     }
     0
-}
-
-/// Whether the integer with this value goes on in what follows its digits.
-pub(crate) fn goes_on(value: u128, follow: &[u8]) -> bool
-    ensures { result ≡ scan.goes_on value follow.now }
-{
-    match follow {
-        [95, d, ..] => is_digit(*d),
-        [35, d, ..] => 2 <= value && value <= 36 && is_digit_of(value, *d),
-        _ => false,
-    }
-}
-
-/// The number with these decimal digits, where it is within the limit.
-#[tactic(auto, using(crate::proofs::Runs::decimals, std::proofs::lemmas::Grind::common_steps))]
-pub(crate) fn decimal(digits: &[u8]) -> Option<u128>
-    ensures { MatchOption result (integer_limit < lexis.decimal 0 digits.now) (λ n. (n ≡ lexis.decimal 0 digits.now) × (n ≤ integer_limit)) }
-{
-    let mut number: u128 = 0;
-    for c in digits {
-        let digit = c.saturating_sub(48) as u128;
-        if number > (INTEGER_LIMIT - digit) / 10 {
-            return None;
-        }
-        number = number * 10 + digit;
-    }
-    Some(number)
 }

@@ -1,6 +1,10 @@
 pub mod TokenTexts
 pub mod Gaps
+pub mod LongestTexts
 pub mod Spelled
+pub mod Escapes
+pub mod Lexed
+pub mod Answered
 pub mod MembershipLaws
 pub mod MembershipStability
 pub mod FiniteMapLaws

@@ -1,11 +1,13 @@
 -- What characters spell is one list of tokens: a gap and a longest text determine the first, and what follows the others.
 use Rattle.std.proofs.Common.{◌≡◌, ℕ, ◌≤◌, false, List, [], ◌∷◌, ◌++◌, length, Option, Some, refl, ap, sym, subst, ◌∙◌, arith}
+use Rattle.std.specs.Prelude.{encode_utf8_all}
 use Rattle.std.proofs.lemmas.List.{append-nil}
+use Rattle.std.proofs.lemmas.Str.{encodes_same}
 use Rattle.erl_tree.specs.declared.token.Place.{Place}
 use Rattle.erl_tree.specs.declared.token.Placed.{Placed}
 use Rattle.erl_tree.specs.declared.token.Token.{Token}
 use Rattle.erl_tree.specs.declared.token.Token.TheVariants as T
-use Rattle.erl_tree.specs.Lexis.{token_of, IsGap, IsLongest, after, Spells}
+use Rattle.erl_tree.specs.Lexis.{token_of, IsGap, IsLongest, after, start, Spells, SpellsTokens}
 use Rattle.erl_tree.proofs.TokenTexts.{token_is_text, token_no_gap, empty_has_none}
 use Rattle.erl_tree.proofs.Gaps.{cons_is, one_gap}
 
@@ -72,3 +74,11 @@ one_spelling (t ∷ u ∷ ts) us p text (gap, word, rest, e, i, j, o, q, m) g =
     let ih = one_spelling (u ∷ ts) r.0 (after (after p gap) word) rest m r.2 in
     let there : placed t.token t.place ≡ placed t.token (after p gap) = ap (placed t.token) q in
     (ap (λ x. x ∷ u ∷ ts) there ∙ ap (λ l. placed t.token (after p gap) ∷ l) ih) ∙ sym r.1
+
+-- bytes are the UTF-8 of one list of characters at most
+pub one_text_of_bytes : (bytes cs ds : List ℕ) → encode_utf8_all cs ≡ bytes → encode_utf8_all ds ≡ bytes → cs ≡ ds
+one_text_of_bytes bytes cs ds e f = encodes_same cs ds (e ∙ sym f)
+
+pub bytes_spell_one : (bytes : List ℕ) (ts us : List Placed) → SpellsTokens bytes ts → SpellsTokens bytes us → ts ≡ us
+bytes_spell_one bytes ts us h g =
+    one_spelling ts us start g.characters (subst (λ (x : List ℕ). Spells start x ts) (one_text_of_bytes bytes h.characters g.characters h.encoded g.encoded) h.spelled) g.spelled

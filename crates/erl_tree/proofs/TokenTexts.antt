@@ -1,11 +1,12 @@
 -- A text that has a token is the text of a token, and begins no gap.
 use Rattle.std.proofs.Common.{◌≡◌, ◌≢◌, ℕ, zero, suc, ◌+◌, ◌-◌, ◌≤◌, Bool, true, false, cond, List, [], ◌∷◌, ◌++◌, Some, None, refl, arith, inl, inr}
-use Rattle.std.specs.Prelude.{◌⊎◌, ◌&&◌, ◌||◌}
+use Rattle.std.specs.Prelude.{◌⊎◌, ◌&&◌, ◌||◌, ◌==◌, pos, encode_utf8_all}
 use Rattle.std.proofs.Math.Dec.{eqb}
 use Rattle.std.proofs.lemmas.Bool.{eqb-true}
 use Rattle.std.proofs.lemmas.Bool.Decides.{nat_tests}
 use Rattle.erl_tree.specs.declared.token.Token.{Token}
-use Rattle.erl_tree.specs.Lexis.{every, is_lower, is_upper, is_digit, is_white, is_mark, goes_on_grouped, is_token_text, token_of, when}
+use Rattle.erl_tree.specs.declared.token.Token.TheVariants.{Atom, Var, Int, Char, Str}
+use Rattle.erl_tree.specs.Lexis.{every, is_lower, is_upper, is_digit, is_name, is_white, is_grouped, goes_on_grouped, is_based, is_quoted, is_character, is_mark, integer_value, unquoted, character_value, name_token, mark_token, is_token_text, token_of, when}
 
 pub chosen : {A : Type 0} (b : Bool) (x y z : A) → cond b x y ≡ z → ((b ≡ true) × (x ≡ z)) ⊎ ((b ≡ false) × (y ≡ z))
 chosen true x y z e = inl (refl, e)
@@ -47,17 +48,30 @@ mark_plain c cs h = (by_39 (eqb c 39) refl, by_34 (eqb c 34) refl, by_36 (eqb c 
     by_36 true e = let k : is_mark (36 ∷ cs) ≡ true = rw (eqb-true c 36 e) at h in absurd cc
     by_36 false e = refl
 
+taken : (b x y : Bool) → b ≡ true → x ≡ true → cond b x y ≡ true
+taken true x y e h = h
+taken false x y e h = absurd cc
+
 pub token_is_text : (text follow : List ℕ) (t : Token) → token_of text follow ≡ Some t → is_token_text text ≡ true
 unfolding token_of is_token_text
 token_is_text [] follow t h = absurd cc
 token_is_text (c ∷ cs) follow t h =
-    elim (chosen (is_lower c) _ _ _ h) [
-      | inl w ↦ rw w.0 (when_holds _ _ _ w.1).0
-      | inr w ↦ elim (chosen (is_upper c) _ _ _ w.1) [
-        | inl v ↦ rw (w.0, v.0) (when_holds _ _ _ v.1).0
-        | inr v ↦ elim (chosen (is_digit c) _ _ _ v.1) [
-          | inl u ↦ rw (w.0, v.0, u.0, digits_grouped cs (when_holds _ _ _ u.1).0) refl
-          | inr u ↦ let g = (when_holds _ _ _ u.1).0 in let k = mark_plain c cs g in rw (w.0, v.0, u.0, k.0, k.1, k.2) g
+    elim (chosen (is_lower c) (when (every is_name cs) (name_token (c ∷ cs))) _ _ h) [
+      | inl w ↦ rw w.0 (when_holds (every is_name cs) (name_token (c ∷ cs)) t w.1).0
+      | inr w ↦ elim (chosen (is_upper c) (when (every is_name cs) (Var (c ∷ cs))) _ _ w.1) [
+        | inl v ↦ rw (w.0, v.0) (when_holds (every is_name cs) (Var (c ∷ cs)) t v.1).0
+        | inr v ↦ elim (chosen (is_digit c) (when (is_grouped is_digit (c ∷ cs) || is_based 0 (c ∷ cs)) (Int (pos (integer_value 0 (c ∷ cs))))) _ _ v.1) [
+          | inl u ↦ rw (w.0, v.0) (taken (is_digit c) (is_grouped is_digit (c ∷ cs) || is_based 0 (c ∷ cs)) _ u.0 (when_holds (is_grouped is_digit (c ∷ cs) || is_based 0 (c ∷ cs)) (Int (pos (integer_value 0 (c ∷ cs)))) t u.1).0)
+          | inr u ↦ elim (chosen (c == 39) (when (is_quoted 39 cs) (Atom (encode_utf8_all (unquoted cs)))) _ _ u.1) [
+            | inl z ↦ rw (w.0, v.0, u.0, z.0) (when_holds (is_quoted 39 cs) (Atom (encode_utf8_all (unquoted cs))) t z.1).0
+            | inr z ↦ elim (chosen (c == 34) (when (is_quoted 34 cs) (Str (encode_utf8_all (unquoted cs)))) _ _ z.1) [
+              | inl y ↦ rw (w.0, v.0, u.0, z.0, y.0) (when_holds (is_quoted 34 cs) (Str (encode_utf8_all (unquoted cs))) t y.1).0
+              | inr y ↦ elim (chosen (c == 36) (when (is_character cs) (Char (character_value cs))) _ _ y.1) [
+                | inl x ↦ rw (w.0, v.0, u.0, z.0, y.0, x.0) (when_holds (is_character cs) (Char (character_value cs)) t x.1).0
+                | inr x ↦ rw (w.0, v.0, u.0, z.0, y.0, x.0) (when_holds (is_mark (c ∷ cs)) (mark_token (c ∷ cs) follow) t x.1).0
+              ]
+            ]
+          ]
         ]
       ]
     ]

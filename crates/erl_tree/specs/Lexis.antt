@@ -1,11 +1,11 @@
 -- Which placed tokens a text spells: tokens, comments and reserved words of the Erlang Reference Manual ("Data Types", "Expressions", "Modules").
-use Rattle.std.specs.Prelude.{◌≡◌, ◌≢◌, ◌⊎◌, ◌≤◌, ◌<◌, ◌+◌, ◌*◌, ◌-◌, ℕ, pos, List, [], ◌∷◌, ◌++◌, length, All, Option, Some, None, Bool, true, false, not, nat_le, ◌==◌, ◌&&◌, ◌||◌, if◌then◌else◌, codes}
+use Rattle.std.specs.Prelude.{◌≡◌, ◌≢◌, ◌⊎◌, ◌≤◌, ◌+◌, ◌*◌, ◌-◌, ℕ, pos, List, [], ◌∷◌, ◌++◌, length, Option, Some, None, Bool, true, false, not, nat_le, ◌==◌, ◌&&◌, ◌||◌, if◌then◌else◌, codes, encode_utf8_all}
 use Rattle.std.specs.List.{list_any}
-use Rattle.std.specs.Str.{bytes_eq}
+use Rattle.std.specs.Str.{bytes_eq, all_scalars}
 use Rattle.erl_tree.specs.declared.token.Place.{Place}
 use Rattle.erl_tree.specs.declared.token.Placed.{Placed}
 use Rattle.erl_tree.specs.declared.token.Token.{Token}
-use Rattle.erl_tree.specs.declared.token.Token.TheVariants.{Atom, Var, Int, Word, Mark, Dot, End}
+use Rattle.erl_tree.specs.declared.token.Token.TheVariants.{Atom, Var, Int, Char, Str, Word, Mark, Dot, End}
 
 -- ---- characters, by their code points
 
@@ -136,17 +136,52 @@ ends_form (c ∷ cs) = is_white c || (c == 37)
 abbrev pub mark_token : (text follow : List ℕ) → Token
 mark_token text follow = if bytes_eq text (codes ".") && ends_form follow then Dot else Mark text
 
+-- the value of a digit; a letter of either case is 10 and more
+abbrev pub digit_value : ℕ → ℕ
+digit_value c = if is_digit c then c - 48 else if is_lower c then c - 87 else c - 55
+
+-- the number whose digits these are, after those of n; underscores between them say nothing
+abbrev pub number : (base n : ℕ) → List ℕ → ℕ
+number base n [] = n
+number base n (c ∷ cs) = if c == 95 then number base n cs else number base (n * base + digit_value c) cs
+
+-- the number with these digits of the base that stands before the #; or the decimal number, where there is no #
+abbrev pub integer_value : (before : ℕ) → List ℕ → ℕ
+integer_value before [] = before
+integer_value before (c ∷ cs) = if c == 35 then number before 0 cs else if c == 95 then integer_value before cs else integer_value (before * 10 + digit_value c) cs
+
+-- the character that an escape stands for: line feed, return, tab, space, backspace, delete, escape, form feed, vertical tab, or the character itself
+abbrev pub escape_value : ℕ → ℕ
+escape_value c =
+    if c == 110 then 10 else if c == 114 then 13 else if c == 116 then 9 else if c == 115 then 32 else
+    if c == 98 then 8 else if c == 100 then 127 else if c == 101 then 27 else if c == 102 then 12 else if c == 118 then 11 else c
+
+-- the characters that stand between quotes, of what follows the opening one, up to and with the closing one
+abbrev pub unquoted : List ℕ → List ℕ
+unquoted [] = []
+unquoted (c ∷ []) = []
+unquoted (c ∷ d ∷ cs) = if c == 92 then escape_value d ∷ unquoted cs else c ∷ unquoted (d ∷ cs)
+
+-- the character that follows $, or that its escape stands for
+abbrev pub character_value : List ℕ → ℕ
+character_value [] = 0
+character_value (c ∷ []) = c
+character_value (c ∷ d ∷ cs) = escape_value d
+
 -- the token, where the test holds
 abbrev pub when : Bool → Token → Option Token
 when holds t = if holds then Some t else None
 
--- The token whose text this is, before what follows. Quoted atoms, strings, characters and integers with a base or underscores are texts of tokens, but what they spell isn't written yet: here they spell nothing.
+-- The token whose text this is, before what follows. Texts that tokens hold are the UTF-8 of their characters.
 unfoldable pub token_of : (text follow : List ℕ) → Option Token
 token_of [] follow = None
 token_of (c ∷ cs) follow =
     if is_lower c then when (every is_name cs) (name_token (c ∷ cs)) else
     if is_upper c then when (every is_name cs) (Var (c ∷ cs)) else
-    if is_digit c then when (every is_digit cs) (Int (pos (decimal 0 (c ∷ cs)))) else
+    if is_digit c then when (is_grouped is_digit (c ∷ cs) || is_based 0 (c ∷ cs)) (Int (pos (integer_value 0 (c ∷ cs)))) else
+    if c == 39 then when (is_quoted 39 cs) (Atom (encode_utf8_all (unquoted cs))) else
+    if c == 34 then when (is_quoted 34 cs) (Str (encode_utf8_all (unquoted cs))) else
+    if c == 36 then when (is_character cs) (Char (character_value cs)) else
     when (is_mark (c ∷ cs)) (mark_token (c ∷ cs) follow)
 
 -- ---- places
@@ -173,7 +208,9 @@ Spells p text (t ∷ []) = IsGap false text [] × (t.token ≡ End) × (t.place 
 Spells p text (t ∷ u ∷ ts) = (gap word rest : List ℕ) × (text ≡ gap ++ (word ++ rest)) × IsGap false gap (word ++ rest)
     × (token_of word rest ≡ Some t.token) × IsLongest word rest × (t.place ≡ after p gap) × Spells (after (after p gap) word) rest (u ∷ ts)
 
--- the bytes are the UTF-8 of characters that spell these tokens; what other characters than those of ASCII spell isn't written yet
+-- the bytes are the UTF-8 of characters that spell these tokens
 pub record SpellsTokens (bytes : List ℕ) (tokens : List Placed) : Type 0 where
-  pub ascii : All (λ c. c < 128) bytes
-  pub spelled : Spells start bytes tokens
+  pub characters : List ℕ
+  pub are_characters : all_scalars characters ≡ true
+  pub encoded : encode_utf8_all characters ≡ bytes
+  pub spelled : Spells start characters tokens

@@ -3,6 +3,8 @@ pub mod Lexis
 pub mod Spelling
 pub mod Grammar
 pub mod Limits
+pub mod Profile
+pub mod Faults
 pub mod Functions
 pub mod Specs
 pub mod Readable

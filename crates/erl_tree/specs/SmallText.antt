@@ -1,6 +1,9 @@
 -- A small text and its tree, for the examples.
 use Rattle.std.specs.Prelude.{ℕ, List, [], ◌∷◌, codes}
 use Rattle.erl_tree.specs.declared.token.Place.{Place}
+use Rattle.erl_tree.specs.declared.token.Placed.{Placed}
+use Rattle.erl_tree.specs.declared.token.Token.{Token}
+use Rattle.erl_tree.specs.declared.token.Token.TheVariants.{Var, Str, Mark, Dot, End}
 use Rattle.erl_tree.specs.declared.form.Module.{Module}
 
 -- a place in the first line
@@ -13,3 +16,15 @@ small_text = codes "-module(a)."
 -- the module named a, without forms
 abbrev pub small_module : Module
 small_module = record { name = codes "a"; marks = place 1 ∷ place 2 ∷ place 8 ∷ place 9 ∷ place 10 ∷ place 11 ∷ place 12 ∷ []; forms = [] }
+
+-- a token in the first line
+abbrev pub placed : Token → ℕ → Placed
+placed t column = record { token = t; place = place column }
+
+-- a variable, a string with an escape, and a comment
+abbrev pub text_with_a_string : List ℕ
+text_with_a_string = codes "X=\"a\\n\".%b"
+
+-- its tokens
+abbrev pub tokens_with_a_string : List Placed
+tokens_with_a_string = placed (Var (codes "X")) 1 ∷ placed (Mark (codes "=")) 2 ∷ placed (Str (97 ∷ 10 ∷ [])) 3 ∷ placed Dot 8 ∷ placed End 11 ∷ []
