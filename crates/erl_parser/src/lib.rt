@@ -14,7 +14,7 @@ mod types;
 
 pub use fault::FirstFault;
 pub use parse::one_tree;
-pub use read::read_first;
+pub use read::parse_first;
 
 #[cfg(test)]
 mod tests;
