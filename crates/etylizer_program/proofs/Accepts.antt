@@ -27,6 +27,8 @@ holds_safe_text files file before after (V.Accepted name functions clauses) stat
       written = subst (λ (text : List ℕ). Puts before after text) (accepted_report under.right.right.safe.tree name functions clauses under.right.right.summary) written;
     }
 holds_safe_text files file before after (V.Failed name function arity clause place kind shown) status written under = absurd (omega arith)
+holds_safe_text files file before after (V.NotText place words) status written under = absurd (omega arith)
+holds_safe_text files file before after (V.NotUtf8 at) status written under = absurd (omega arith)
 holds_safe_text files file before after V.TooLong status written under = absurd (omega arith)
 holds_safe_text files file before after V.NotBuilt status written under = absurd (omega arith)
 holds_safe_text files file before after V.Usage status written under = absurd (omega arith)

@@ -7,6 +7,14 @@ use Rattle.erl_tree.specs.declared.token.Place.{Place}
 use Rattle.type_terms.specs.declared.spec.Kind.{Kind}
 use Rattle.erl_tree.specs.Functions.{functions_in, functions_of}
 use Rattle.erl_tree.specs.Specs.{specs_of, specs_in}
+use Rattle.erl_tree.specs.declared.token.Placed.{Placed}
+use Rattle.erl_tree.specs.Lexis.{SpellsTokens}
+use Rattle.erl_tree.specs.Spelling.{tokens_of}
+use Rattle.erl_tree.specs.Grammar.{IsWellFormed}
+use Rattle.erl_tree.specs.Profile.{IsLexed}
+use Rattle.erl_tree.proofs.Lexed.{lexed_is_spelled}
+use Rattle.erl_parser.specs.declared.fault.FirstFault.{FirstFault}
+use Rattle.erl_parser.proofs.TextLaws.{same_tokens}
 use Rattle.erl_tree.specs.Readable.{IsFlatModule}
 use Rattle.erl_tree.specs.Safety.{IsSafe, IsSafeText}
 use Rattle.cert_checker.specs.Failures.{MeetsConstraints, ShowsFirstFailure}
@@ -31,7 +39,7 @@ abbrev safe_text : (text : List ℕ) (m : Module) → IsReadAs text m → IsSafe
 safe_text text m read safe = record { tree = m; spelled = read.spelled; only = read.only; readable = read.flat.readable; safe = safe }
 
 text_accepted : (text : List ℕ) (m : Module) (name : List ℕ) (functions clauses : ℕ) → IsReadAs text m → IsAcceptedModule m name functions clauses → IsAcceptedText text name functions clauses
-text_accepted text m name functions clauses read accepted = record { safe = safe_text text m read accepted.safe; flat = read.flat; meets = accepted.meets; summary = accepted.summary }
+text_accepted text m name functions clauses read accepted = record { safe = safe_text text m read accepted.safe; lexed = read.lexed; flat = read.flat; meets = accepted.meets; summary = accepted.summary }
 
 -- a text whose module is accepted
 pub accepted_text : (text : List ℕ) (m : Module) (result : Result Accepted Refused) → IsReadAs text m
@@ -42,6 +50,8 @@ accepted_text text m (Err refused) read accepted = accepted
 text_verdict : (text : List ℕ) (m : Module) (verdict : Verdict) → IsReadAs text m → IsModuleVerdict m verdict → IsTextVerdict text verdict
 text_verdict text m (V.Accepted name functions clauses) read is = text_accepted text m name functions clauses read is
 text_verdict text m (V.Failed name function arity clause place kind shown) read is = (m, read, is)
+text_verdict text m (V.NotText place words) read is = absurd is
+text_verdict text m (V.NotUtf8 at) read is = absurd is
 text_verdict text m V.TooLong read is = absurd is
 text_verdict text m V.NotBuilt read is = absurd is
 text_verdict text m V.Usage read is = absurd is
@@ -49,6 +59,8 @@ text_verdict text m V.Usage read is = absurd is
 not_too_long : (m : Module) (verdict : Verdict) → IsModuleVerdict m verdict → verdict ≡ V.TooLong → ⊥
 not_too_long m (V.Accepted name functions clauses) is e = cc
 not_too_long m (V.Failed name function arity clause place kind shown) is e = cc
+not_too_long m (V.NotText place words) is e = cc
+not_too_long m (V.NotUtf8 at) is e = cc
 not_too_long m V.TooLong is e = is
 not_too_long m V.NotBuilt is e = cc
 not_too_long m V.Usage is e = cc
@@ -74,3 +86,20 @@ refusal_right m refusal refused is shows = subst (λ (r : Refused). IsModuleRefu
     right : (refusal : FirstRefusal) → ShowsFirstFailure m refusal → IsModuleRefusal m (refused_as refusal)
     right F.NoMemory shows = tt
     right (F.Failed function place kind shown) shows = shows
+
+-- ---- texts that were lexed
+
+-- a text is read as the module whose tokens it was lexed as
+pub read_as : (text : List ℕ) (tokens : List Placed) (m : Module) → IsLexed text tokens → tokens_of m ≡ tokens → IsFlatModule m → ((other : Module) → IsWellFormed other → tokens_of other ≡ tokens → other ≡ m) → IsReadAs text m
+read_as text tokens m lexed same flat only = record {
+  lexed = subst (λ (ts : List Placed). IsLexed text ts) (sym same) lexed;
+  spelled = record { tokens = subst (λ (ts : List Placed). SpellsTokens text ts) (sym same) (lexed_is_spelled text tokens lexed); well_formed = flat.well_formed };
+  only = λ other s. only other s.well_formed (same_tokens text tokens other (lexed_is_spelled text tokens lexed) s);
+  flat = flat;
+}
+
+-- the module that was read of the tokens is the one that the text is read as
+pub text_read : (text : List ℕ) (tokens : List Placed) (r : Result Module FirstFault) → IsLexed text tokens → IfOk r (λ m. tokens_of m ≡ tokens) → IfOk r (λ m. IsFlatModule m)
+    → IfOk r (λ m. (other : Module) → IsWellFormed other → tokens_of other ≡ tokens → other ≡ m) → IfOk r (IsReadAs text)
+text_read text tokens (Ok m) lexed same flat only = read_as text tokens m lexed same flat only
+text_read text tokens (Err fault) lexed same flat only = tt

@@ -11,7 +11,9 @@ use Rattle.erl_tree.specs.Lexis.{is_lower, is_name, is_reserved}
 use Rattle.cert_checker.specs.declared.refusal.Shown.{Shown}
 use Rattle.cert_checker.specs.declared.refusal.Shown.TheVariants.{One, Missing}
 use Rattle.etylizer_program.specs.declared.report.Verdict.{Verdict}
-use Rattle.etylizer_program.specs.declared.report.Verdict.TheVariants.{Accepted, Failed, TooLong, NotBuilt, Usage}
+use Rattle.etylizer_program.specs.declared.report.Verdict.TheVariants.{Accepted, Failed, NotText, NotUtf8, TooLong, NotBuilt, Usage}
+use Rattle.etylizer_program.specs.declared.report.Words.{Words}
+use Rattle.etylizer_program.specs.declared.report.Words.TheVariants.{BadToken, BadEscape, NumberTooWide, OutOfProfile}
 
 -- whether a small letter comes first
 abbrev pub begins_lower : List ℕ → Bool
@@ -64,6 +66,13 @@ kind_text KeyKind = codes "key"
 kind_text Update = codes "update"
 kind_text Filter = codes "filter"
 
+-- why a text is no module, in words
+abbrev pub words_text : Words → List ℕ
+words_text BadToken = codes "bad token"
+words_text BadEscape = codes "bad escape"
+words_text NumberTooWide = codes "number too wide"
+words_text (OutOfProfile form) = codes "out of profile: " ++ form
+
 -- line:column
 abbrev pub place_text : Place → List ℕ
 place_text place = decimal place.line ++ (codes ":" ++ decimal place.column)
@@ -75,6 +84,8 @@ report_text (Accepted name functions clauses) =
 report_text (Failed name function arity clause place kind shown) =
     (codes "refused " ++ (atom_text name ++ (codes ": " ++ (atom_text function ++ (codes "/" ++ (decimal arity ++ (codes " clause " ++ decimal clause)))))))
     ++ (codes " at " ++ (place_text place ++ (codes ": " ++ (kind_text kind ++ (codes ": " ++ (shown_text shown ++ codes "\n"))))))
+report_text (NotText place words) = codes "not a module: " ++ (place_text place ++ (codes ": " ++ (words_text words ++ codes "\n")))
+report_text (NotUtf8 at) = codes "not a module: byte " ++ (decimal at ++ codes ": not UTF-8\n")
 report_text TooLong = codes "not a module: over 1048576 bytes\n"
 report_text NotBuilt = codes "not a module: not built yet\n"
 report_text Usage = codes "usage: etylizer check FILE\n"

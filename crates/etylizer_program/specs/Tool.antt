@@ -5,7 +5,7 @@ use Rattle.erl_tree.specs.Readable.{IsFlatModule}
 use Rattle.erl_tree.specs.Safety.{IsSafeText}
 use Rattle.cert_checker.specs.Failures.{MeetsConstraints}
 use Rattle.etylizer_program.specs.declared.report.Verdict.{Verdict}
-use Rattle.etylizer_program.specs.declared.report.Verdict.TheVariants.{Accepted, Failed, TooLong, NotBuilt, Usage}
+use Rattle.etylizer_program.specs.declared.report.Verdict.TheVariants.{Accepted, Failed, NotText, NotUtf8, TooLong, NotBuilt, Usage}
 use Rattle.etylizer_program.specs.Outside.{Holdings, IsHeld, Puts, PutsBeginning}
 use Rattle.etylizer_program.specs.Commands.{command_of}
 use Rattle.etylizer_program.specs.Report.{report_text}
@@ -39,6 +39,8 @@ abbrev pub verdict_status : Verdict → ℕ
 verdict_status (Accepted name functions clauses) = 0
 verdict_status (Failed name function arity clause place kind shown) = 1
 verdict_status Usage = 2
+verdict_status (NotText place words) = 3
+verdict_status (NotUtf8 at) = 3
 verdict_status TooLong = 3
 verdict_status NotBuilt = 3
 
@@ -113,13 +115,13 @@ pub record NamesText (words : List (List ℕ)) (held : Option Holdings) (text : 
   pub holds : files file ≡ Some text
   pub short : length text ≤ text_limit
 
--- the words name a text that spells no flat module
+-- the words name a text whose tokens are those of no flat module
 pub record NamesNoModule (words : List (List ℕ)) (held : Option Holdings) : Type 0 where
   pub text : List ℕ
   pub named : NamesText words held text
   pub not_read : IsNotRead text
 
--- the words name a text that spells a flat module all of whose constraints hold
+-- the words name a text whose tokens are those of a flat module all of whose constraints hold
 pub record NamesRightModule (words : List (List ℕ)) (held : Option Holdings) : Type 0 where
   pub text : List ℕ
   pub named : NamesText words held text

@@ -1,13 +1,15 @@
 ghost use Rattle.std.specs.Prelude.{◌≡◌, ◌⊎◌, ◌<◌, ◌≤◌, ◌↔◌, length, IfOk, IfErr, IsOk, IsErrOf};
+ghost use Rattle.erl_tree.specs.Profile.{IsLexed};
 ghost use Rattle.erl_tree.specs.Readable.{IsFlatModule};
 ghost use Rattle.etylizer_program.specs.Check.{text_limit, IsNotRead, IsRightText, IsReadAs, IsAcceptedModule, IsAcceptedText, IsModuleRefusal, IsTextRefusal, refused_as};
 
 use crate::count::{count_functions, count_specs};
 use cert_checker::{FirstRefusal, check_first};
-use erl_parser::{FirstFault, read_first};
-use erl_tree::Module;
+use erl_lexer::{LexFault, lex};
+use erl_parser::{FirstFault, parse_first};
+use erl_tree::{Module, Placed};
 use std::alloc::Global;
-use type_terms::{NoMemory, Plain, Text};
+use type_terms::{List, NoMemory, Plain, Text};
 
 /// The greatest number of bytes of a module's text.
 pub const TEXT_LIMIT: u64 = 1048576;
@@ -26,7 +28,9 @@ pub enum Refused {
     NoMemory,
     /// It has more than `TEXT_LIMIT` bytes.
     TooLong,
-    /// It spells no module of those that are read so far.
+    /// It has no tokens within the profile and the limit of integers.
+    Lex(LexFault),
+    /// Its tokens are those of no module of those that are read so far.
     NotBuilt,
     /// A constraint fails.
     Types(FirstRefusal),
@@ -46,8 +50,8 @@ impl From<NoMemory> for Refused {
 ///
 /// # Errors
 ///
-/// `TooLong` exactly where the text has more than `TEXT_LIMIT` bytes, `NotBuilt` where it spells no
-/// module of those that are read so far, `Types` where a constraint fails, and `NoMemory` where memory
+/// `TooLong` exactly where the text has more than `TEXT_LIMIT` bytes, `Lex` where it has no tokens within
+/// the profile, `NotBuilt` where its tokens are those of no module of those that are read so far, `Types` where a constraint fails, and `NoMemory` where memory
 /// runs out.
 pub fn check_text(alloc: Global, text: &[u8]) -> Result<Accepted, Refused>
     ensures safe { IfOk result (λ a. IsAcceptedText text.now a.name a.functions a.clauses) }
@@ -77,7 +81,21 @@ pub fn read_text(alloc: Global, text: &[u8]) -> Result<Module, Refused>
     if text.len() as u64 > TEXT_LIMIT {
         return Err(Refused::TooLong);
     }
-    match read_first(alloc, text) {
+    match lex(alloc, text) {
+        Err(LexFault::NoMemory) => Err(Refused::NoMemory),
+        Err(fault) => Err(Refused::Lex(fault)),
+        Ok(tokens) => read_tokens(alloc, text, &tokens),
+    }
+}
+
+/// The flat module whose tokens a text was lexed as.
+fn read_tokens(alloc: Global, text: &[u8], tokens: &List<Placed>) -> Result<Module, Refused>
+    requires lexed { IsLexed text.now tokens.now }
+    ensures read { IfOk result (IsReadAs text.now) }
+    ensures refused { IfErr result (IsTextRefusal text.now) }
+    ensures short { IsErrOf result Refused.TooLong → ⊥ }
+{
+    match parse_first(alloc, tokens) {
         Ok(tree) => Ok(tree),
         Err(FirstFault::NoMemory) => Err(Refused::NoMemory),
         Err(FirstFault::NotBuilt) => Err(Refused::NotBuilt),

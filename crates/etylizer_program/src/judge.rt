@@ -1,13 +1,13 @@
-ghost use Rattle.std.specs.Prelude.{◌≡◌, ◌<◌, ◌≤◌, length, IfOk};
+ghost use Rattle.std.specs.Prelude.{◌≡◌, ◌<◌, ◌≤◌, ℕ, List as Listed, length, IfOk};
 ghost use Rattle.erl_tree.specs.Functions.{functions_of};
 ghost use Rattle.cert_checker.specs.Failures.{ShowsFirstFailure};
-ghost use Rattle.etylizer_program.specs.Check.{text_limit, IsModuleVerdict, IsRightVerdict, IsTextRefusal};
+ghost use Rattle.etylizer_program.specs.Check.{text_limit, IsFirstFault, IsModuleVerdict, IsRightVerdict, IsTextRefusal};
 
-use crate::check::{Refused, check_text};
+use crate::check::{Refused, check_text, read_text};
 use crate::count::function_at;
-use crate::report::Verdict;
+use crate::report::{Verdict, Words};
 use cert_checker::{FirstRefusal, Shown};
-use erl_parser::{FirstFault, read_first};
+use erl_lexer::LexFault;
 use erl_tree::{Module, Place};
 use std::alloc::Global;
 use type_terms::{Kind, NoMemory, Plain};
@@ -24,6 +24,7 @@ pub fn judge(alloc: Global, text: &[u8]) -> Result<Verdict, NoMemory>
         }),
         Err(Refused::NoMemory) => Err(NoMemory),
         Err(Refused::TooLong) => Ok(Verdict::TooLong),
+        Err(Refused::Lex(fault)) => fault_verdict(fault),
         Err(Refused::NotBuilt) => Ok(Verdict::NotBuilt),
         Err(Refused::Types(FirstRefusal::NoMemory)) => unreachable!(),
         Err(
@@ -36,6 +37,32 @@ pub fn judge(alloc: Global, text: &[u8]) -> Result<Verdict, NoMemory>
                 },
             ),
         ) => judge_failure(alloc, text, function, place, kind, shown),
+    }
+}
+
+/// The verdict on a text with a fault of the lexer.
+fn fault_verdict(fault: LexFault) -> Result<Verdict, NoMemory>
+    ensures { IfOk result (λ verdict. (text : Listed ℕ) → IsFirstFault text fault → length text ≤ text_limit → IsRightVerdict text verdict) }
+{
+    match fault {
+        LexFault::NoMemory => Err(NoMemory),
+        LexFault::NotUtf8(at) => Ok(Verdict::NotUtf8 { at }),
+        LexFault::OutOfProfile(place, form) => Ok(Verdict::NotText {
+            place,
+            words: Words::OutOfProfile(form),
+        }),
+        LexFault::WideNumber(place) => Ok(Verdict::NotText {
+            place,
+            words: Words::NumberTooWide,
+        }),
+        LexFault::BadEscape(place) => Ok(Verdict::NotText {
+            place,
+            words: Words::BadEscape,
+        }),
+        LexFault::BadToken(place) => Ok(Verdict::NotText {
+            place,
+            words: Words::BadToken,
+        }),
     }
 }
 
@@ -53,10 +80,10 @@ fn judge_failure(
     requires failed { IsTextRefusal text.now (Refused.Types (FirstRefusal.Failed number place kind shown)) }
     ensures { IfOk result (IsRightVerdict text.now) }
 {
-    match read_first(alloc, text) {
+    match read_text(alloc, text) {
         Ok(tree) => failed_verdict(alloc, &tree, number, place, kind, shown),
-        Err(FirstFault::NoMemory) => Err(NoMemory),
-        Err(FirstFault::NotBuilt) => unreachable!(),
+        // The text was read before, so memory alone can be wanting.
+        Err(_) => Err(NoMemory),
     }
 }
 

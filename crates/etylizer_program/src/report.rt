@@ -2,7 +2,7 @@ ghost use Rattle.std.specs.Prelude.{◌≡◌, ◌∷◌, ◌++◌, [], OnOk, If
 ghost use Rattle.std.specs.List.{list_all};
 ghost use Rattle.std.specs.Fmt.{signed_decimal};
 ghost use Rattle.erl_tree.specs.Lexis.{is_name};
-ghost use Rattle.etylizer_program.specs.Report.{begins_lower, is_plain_atom, escaped, atom_text, key_text, keys_text, missing_text, kind_text, shown_text, place_text, report_text};
+ghost use Rattle.etylizer_program.specs.Report.{begins_lower, is_plain_atom, escaped, atom_text, key_text, keys_text, missing_text, kind_text, shown_text, place_text, words_text, report_text};
 
 use cert_checker::Shown;
 use erl_lexer::is_reserved;
@@ -31,12 +31,26 @@ pub enum Verdict {
         kind: Kind,
         shown: Shown,
     },
+    /// The text has no tokens, or none that are read: why, and where.
+    NotText { place: Place, words: Words },
+    /// The bytes aren't UTF-8 from this one on, counted from 0.
+    NotUtf8 { at: u64 },
     /// The text is longer than a module may be.
     TooLong,
     /// The text spells no module of those that are read so far.
     NotBuilt,
     /// The words are no command.
     Usage,
+}
+
+/// Why a text is no module.
+#[derive(Drop)]
+pub enum Words {
+    BadToken,
+    BadEscape,
+    NumberTooWide,
+    /// A form outside of the profile, by its name.
+    OutOfProfile(Text),
 }
 
 /// The text of a verdict: one line.
@@ -74,10 +88,50 @@ fn push_verdict(out: &mut Vec<u8>, verdict: &Verdict) -> Result<(), AllocError>
             push_failure(out, *place, *kind, shown)?;
             Ok(())
         }
+        Verdict::NotText { place, words } => push_not_text(out, *place, words),
+        Verdict::NotUtf8 { at } => push_not_utf8(out, *at),
         Verdict::TooLong => out.extend_from_slice(b"not a module: over 1048576 bytes\n"),
         Verdict::NotBuilt => out.extend_from_slice(b"not a module: not built yet\n"),
         Verdict::Usage => out.extend_from_slice(b"usage: etylizer check FILE\n"),
     }
+}
+
+fn push_not_text(out: &mut Vec<u8>, place: Place, words: &Words) -> Result<(), AllocError>
+    ensures { OnOk result (out.new.items ≡ out.old.items ++ (codes "not a module: " ++ (place_text place ++ (codes ": " ++ (words_text words.now ++ codes "\n"))))) }
+{
+    out.extend_from_slice(b"not a module: ")?;
+    push_place(out, place)?;
+    out.extend_from_slice(b": ")?;
+    push_words(out, words)?;
+    out.extend_from_slice(b"\n")?;
+    Ok(())
+}
+
+fn push_words(out: &mut Vec<u8>, words: &Words) -> Result<(), AllocError>
+    ensures { OnOk result (out.new.items ≡ out.old.items ++ words_text words.now) }
+{
+    match words {
+        Words::BadToken => out.extend_from_slice(b"bad token"),
+        Words::BadEscape => out.extend_from_slice(b"bad escape"),
+        Words::NumberTooWide => out.extend_from_slice(b"number too wide"),
+        Words::OutOfProfile(form) => push_outside(out, form.as_slice()),
+    }
+}
+
+fn push_outside(out: &mut Vec<u8>, form: &[u8]) -> Result<(), AllocError>
+    ensures { OnOk result (out.new.items ≡ out.old.items ++ (codes "out of profile: " ++ form.now)) }
+{
+    out.extend_from_slice(b"out of profile: ")?;
+    out.extend_from_slice(form)
+}
+
+fn push_not_utf8(out: &mut Vec<u8>, at: u64) -> Result<(), AllocError>
+    ensures { OnOk result (out.new.items ≡ out.old.items ++ (codes "not a module: byte " ++ (decimal at ++ codes ": not UTF-8\n"))) }
+{
+    out.extend_from_slice(b"not a module: byte ")?;
+    push_number(out, at)?;
+    out.extend_from_slice(b": not UTF-8\n")?;
+    Ok(())
 }
 
 fn push_accepted(

@@ -163,6 +163,8 @@ fn status_of(verdict: &Verdict) -> Status
         Verdict::Accepted { .. } => ACCEPTED,
         Verdict::Failed { .. } => REFUSED,
         Verdict::Usage => USAGE,
+        Verdict::NotText { .. } => NOT_A_MODULE,
+        Verdict::NotUtf8 { .. } => NOT_A_MODULE,
         Verdict::TooLong => NOT_A_MODULE,
         Verdict::NotBuilt => NOT_A_MODULE,
     }

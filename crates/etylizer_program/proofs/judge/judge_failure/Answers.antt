@@ -4,13 +4,13 @@ use Rattle.etylizer_program.proofs.judge.judge_failure.Goals as goal
 
 pub returns-in-Ok : goal.returns-in-Ok
 returns-in-Ok c =
-    right_verdict c.args.text.now c.in-Ok.tree c.failed_verdict.result (record { spelled = c.in-Ok.ensures.spelled; only = c.in-Ok.ensures.only; flat = c.in-Ok.ensures.flat }) (λ long. omega arith) c.failed_verdict.ensures
+    right_verdict c.args.text.now c.in-Ok.tree c.failed_verdict.result c.in-Ok.ensures.read (λ long. omega arith) c.failed_verdict.ensures
 
 pub failed_verdict-requires-clause-shown : goal.failed_verdict-requires-clause-shown
 failed_verdict-requires-clause-shown c =
-    shown_of_read c.args.text.now c.in-Ok.tree c.args.number c.args.place c.args.kind c.args.shown (record { spelled = c.in-Ok.ensures.spelled; only = c.in-Ok.ensures.only; flat = c.in-Ok.ensures.flat }) c.requires.failed
+    shown_of_read c.args.text.now c.in-Ok.tree c.args.number c.args.place c.args.kind c.args.shown c.in-Ok.ensures.read c.requires.failed
 
 pub failed_verdict-requires-clause-counted : goal.failed_verdict-requires-clause-counted
 failed_verdict-requires-clause-counted c =
     function_counted c.in-Ok.tree c.args.number c.args.place c.args.kind c.args.shown
-    (shown_of_read c.args.text.now c.in-Ok.tree c.args.number c.args.place c.args.kind c.args.shown (record { spelled = c.in-Ok.ensures.spelled; only = c.in-Ok.ensures.only; flat = c.in-Ok.ensures.flat }) c.requires.failed)
+    (shown_of_read c.args.text.now c.in-Ok.tree c.args.number c.args.place c.args.kind c.args.shown c.in-Ok.ensures.read c.requires.failed)
