@@ -32,9 +32,14 @@ pub enum Verdict {
         shown: Shown,
     },
     /// The text has no tokens, or none that are read: why, and where.
-    NotText { place: Place, words: Words },
+    NotText {
+        place: Place,
+        words: Words,
+    },
     /// The bytes aren't UTF-8 from this one on, counted from 0.
-    NotUtf8 { at: u64 },
+    NotUtf8 {
+        at: u64,
+    },
     /// The text is longer than a module may be.
     TooLong,
     /// The text spells no module of those that are read so far.

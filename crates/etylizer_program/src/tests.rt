@@ -8,6 +8,7 @@ use crate::outside::{
 use crate::report::{Verdict, report};
 use crate::tool::{Status, run_tool};
 use cert_checker::{FirstRefusal, Shown};
+use erl_lexer::LexFault;
 use erl_tree::Place;
 use std::alloc::Global;
 use std::process::Abort;
@@ -67,7 +68,7 @@ fn expect(
 }
 
 /// The lines behind `-module(a).`, the status and the output.
-const MODULES: [(&[u8], Status, &[u8]); 21] = [
+const MODULES: [(&[u8], Status, &[u8]); 27] = [
     (
         b"-spec f(integer()) -> integer().\nf(X) -> X.\n",
         0,
@@ -145,8 +146,26 @@ const MODULES: [(&[u8], Status, &[u8]); 21] = [
     (
         b"-spec f() -> integer().\nf() -> 170141183460469231731687303715884105727.\n",
         3,
-        NOT_BUILT,
+        b"not a module: 3:8: number too wide\n",
     ),
+    (b"\xff", 3, b"not a module: byte 12: not UTF-8\n"),
+    (
+        b"f() -> 1.5.",
+        3,
+        b"not a module: 2:8: out of profile: float\n",
+    ),
+    (b"f() -> '\\q'.", 3, b"not a module: 2:9: bad escape\n"),
+    (
+        b"-spec f() -> string().\nf() -> \"ab",
+        3,
+        b"not a module: 3:8: bad token\n",
+    ),
+    (
+        b"%\xc3\xa9\nf() -> X--Y.",
+        3,
+        b"not a module: 3:9: out of profile: list difference\n",
+    ),
+    (b"-spec f('a') -> 16#1f.\nf('a b') -> 31.\n", 3, NOT_BUILT),
     (b"f() -> 1.\n", 3, NOT_BUILT),
     (b"hello", 3, NOT_BUILT),
 ];
@@ -237,6 +256,8 @@ fn checks_texts(rt: HostRuntime) -> Result<(), Fail> {
     assert_eq!(rt; accepted.clauses, 1);
     let refused = check_text(alloc, b"-module(a).\n-spec f(a) -> b.\nf(X) -> X.\n");
     assert!(rt; matches!(&refused, Err(Refused::Types(FirstRefusal::Failed { .. }))));
+    let faulty = check_text(alloc, b"a?");
+    assert!(rt; matches!(&faulty, Err(Refused::Lex(LexFault::OutOfProfile(_, _)))));
     let not_built = check_text(alloc, b"hello");
     assert!(rt; matches!(&not_built, Err(Refused::NotBuilt)));
     Ok(())
