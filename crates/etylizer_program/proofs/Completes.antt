@@ -150,7 +150,7 @@ completes status words held before after right small read write usage judges =
     let j : Judges status words held before after = judges below not_two in
     sym j.judged.status_is ∙ accepted_verdict right.text right.right j.judged.verdict right.named.short (judged_text status words held before after right.text right.named j))
 
--- a text that spells no flat module isn't built yet
+-- a text whose tokens are those of no flat module isn't built yet
 pub refuses : (status : ℕ) (words : List (List ℕ)) (held : Option Holdings) (before after : Option (List ℕ)) → NamesNoModule words held → status ≤ 6
     → (status ≡ 4 → ⊥) → (status ≡ 5 → ⊥) → (status ≡ 2 → ⊥) → (status < 4 → status ≢ 2 → Judges status words held before after)
     → ((status ≡ 3) × Puts before after (report_text V.NotBuilt)) ⊎ (status ≡ 6)

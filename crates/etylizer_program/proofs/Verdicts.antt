@@ -20,13 +20,11 @@ use Rattle.erl_tree.specs.Safety.{IsSafe, IsSafeText}
 use Rattle.cert_checker.specs.Failures.{MeetsConstraints, ShowsFirstFailure}
 use Rattle.cert_checker.specs.declared.refusal.FirstRefusal.{FirstRefusal}
 use Rattle.cert_checker.specs.declared.refusal.FirstRefusal.TheVariants as F
-use Rattle.etylizer_program.specs.declared.check.Accepted.{Accepted}
 use Rattle.etylizer_program.specs.declared.check.Refused.{Refused}
-use Rattle.etylizer_program.specs.declared.check.Refused.TheVariants as R
 use Rattle.cert_checker.specs.declared.refusal.Shown.{Shown}
 use Rattle.etylizer_program.specs.declared.report.Verdict.{Verdict}
 use Rattle.etylizer_program.specs.declared.report.Verdict.TheVariants as V
-use Rattle.etylizer_program.specs.Check.{text_limit, IsReadAs, IsAcceptedModule, IsModuleRefusal, refused_as, IsAcceptedText, IsModuleVerdict, IsTextVerdict, IsTextRefusal, IsRightVerdict}
+use Rattle.etylizer_program.specs.Check.{text_limit, IsReadAs, IsAcceptedModule, refused_as, IsAcceptedText, IsModuleVerdict, IsTextVerdict, IsTextRefusal, IsRightVerdict}
 use Rattle.etylizer_program.proofs.Flat.{clauses_counted_by_specs}
 
 -- the summary, counted by forms
@@ -38,14 +36,9 @@ accepted_module m name functions clauses flat meets safe named functions_are cla
 abbrev safe_text : (text : List ℕ) (m : Module) → IsReadAs text m → IsSafe m (specs_of m) given_definitions → IsSafeText text
 safe_text text m read safe = record { tree = m; spelled = read.spelled; only = read.only; readable = read.flat.readable; safe = safe }
 
-text_accepted : (text : List ℕ) (m : Module) (name : List ℕ) (functions clauses : ℕ) → IsReadAs text m → IsAcceptedModule m name functions clauses → IsAcceptedText text name functions clauses
-text_accepted text m name functions clauses read accepted = record { safe = safe_text text m read accepted.safe; lexed = read.lexed; flat = read.flat; meets = accepted.meets; summary = accepted.summary }
-
 -- a text whose module is accepted
-pub accepted_text : (text : List ℕ) (m : Module) (result : Result Accepted Refused) → IsReadAs text m
-    → IfOk result (λ a. IsAcceptedModule m a.name a.functions a.clauses) → IfOk result (λ a. IsAcceptedText text a.name a.functions a.clauses)
-accepted_text text m (Ok a) read accepted = text_accepted text m a.name a.functions a.clauses read accepted
-accepted_text text m (Err refused) read accepted = accepted
+pub text_accepted : (text : List ℕ) (m : Module) (name : List ℕ) (functions clauses : ℕ) → IsReadAs text m → IsAcceptedModule m name functions clauses → IsAcceptedText text name functions clauses
+text_accepted text m name functions clauses read accepted = record { safe = safe_text text m read accepted.safe; lexed = read.lexed; flat = read.flat; meets = accepted.meets; summary = accepted.summary }
 
 text_verdict : (text : List ℕ) (m : Module) (verdict : Verdict) → IsReadAs text m → IsModuleVerdict m verdict → IsTextVerdict text verdict
 text_verdict text m (V.Accepted name functions clauses) read is = text_accepted text m name functions clauses read is
@@ -71,21 +64,17 @@ pub right_verdict : (text : List ℕ) (m : Module) (result : Result Verdict NoMe
 right_verdict text m (Ok verdict) read within is = record { right = text_verdict text m verdict read is; too_long = ((λ long. absurd (within long)), (λ e. absurd (not_too_long m verdict is e))) }
 right_verdict text m (Err e) read within is = is
 
--- the constraint that a refusal shows is one of the module that was read
-pub shown_of_read : (text : List ℕ) (tree : Module) (number : ℕ) (place : Place) (kind : Kind) (shown : Shown) → IsReadAs text tree → IsTextRefusal text (R.Types (F.Failed number place kind shown)) → ShowsFirstFailure tree (F.Failed number place kind shown)
-shown_of_read text tree number place kind shown read is = subst (λ (m : Module). ShowsFirstFailure m (F.Failed number place kind shown)) (read.only is.0 is.1.spelled) is.2
-
 -- the function in which a constraint fails is one of the module
 pub function_counted : (m : Module) (number : ℕ) (place : Place) (kind : Kind) (shown : Shown) → ShowsFirstFailure m (F.Failed number place kind shown) → number < length (functions_of m)
 function_counted m number place kind shown shows = (shows (λ types parameters. true) (λ types parameters within. refl)).1
 
--- the refusal of a module is right of it
-pub refusal_right : (m : Module) (refusal : FirstRefusal) (refused : Refused) → refused ≡ refused_as refusal → ShowsFirstFailure m refusal → IsModuleRefusal m refused
-refusal_right m refusal refused is shows = subst (λ (r : Refused). IsModuleRefusal m r) (sym is) (right refusal shows)
+-- the refusal of a module is right of the text that is read as it
+pub text_refused : (text : List ℕ) (m : Module) (refusal : FirstRefusal) (refused : Refused) → refused ≡ refused_as refusal → IsReadAs text m → ShowsFirstFailure m refusal → IsTextRefusal text refused
+text_refused text m refusal refused is read shows = subst (λ (r : Refused). IsTextRefusal text r) (sym is) (right refusal shows)
   where
-    right : (refusal : FirstRefusal) → ShowsFirstFailure m refusal → IsModuleRefusal m (refused_as refusal)
+    right : (refusal : FirstRefusal) → ShowsFirstFailure m refusal → IsTextRefusal text (refused_as refusal)
     right F.NoMemory shows = tt
-    right (F.Failed function place kind shown) shows = shows
+    right (F.Failed function place kind shown) shows = (m, read, shows)
 
 -- ---- texts that were lexed
 

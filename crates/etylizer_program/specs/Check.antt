@@ -103,14 +103,6 @@ abbrev pub IsFailure : Module → FirstRefusal → Type 0
 IsFailure m NoMemoryToCheck = ⊥
 IsFailure m (FailedConstraint function place kind shown) = ShowsFirstFailure m (FailedConstraint function place kind shown)
 
--- why a module that was read may be refused
-abbrev pub IsModuleRefusal : Module → Refused → Type 0
-IsModuleRefusal m NoMemoryForText = Unit {0}
-IsModuleRefusal m TooLongText = ⊥
-IsModuleRefusal m NotBuiltText = ⊥
-IsModuleRefusal m (LexText fault) = ⊥
-IsModuleRefusal m (Types refusal) = IsFailure m refusal
-
 -- why a text is refused whose module is refused
 abbrev pub refused_as : FirstRefusal → Refused
 refused_as NoMemoryToCheck = NoMemoryForText

@@ -1,7 +1,9 @@
 ghost use Rattle.std.specs.Prelude.{◌≡◌, ◌⊎◌, ◌<◌, ◌≤◌, ◌↔◌, length, IfOk, IfErr, IsOk, IsErrOf};
 ghost use Rattle.erl_tree.specs.Profile.{IsLexed};
 ghost use Rattle.erl_tree.specs.Readable.{IsFlatModule};
-ghost use Rattle.etylizer_program.specs.Check.{text_limit, IsNotRead, IsRightText, IsReadAs, IsAcceptedModule, IsAcceptedText, IsModuleRefusal, IsTextRefusal, refused_as};
+ghost use Rattle.cert_checker.specs.declared.refusal.FirstRefusal.{FirstRefusal as Failure};
+ghost use Rattle.cert_checker.specs.Failures.{ShowsFirstFailure};
+ghost use Rattle.etylizer_program.specs.Check.{text_limit, IsNotRead, IsRightText, IsReadAs, IsAcceptedModule, IsAcceptedText, IsTextRefusal, refused_as};
 
 use crate::count::{count_functions, count_specs};
 use cert_checker::{FirstRefusal, check_first};
@@ -9,7 +11,7 @@ use erl_lexer::{LexFault, lex};
 use erl_parser::{FirstFault, parse_first};
 use erl_tree::{Module, Placed};
 use std::alloc::Global;
-use type_terms::{List, NoMemory, Plain, Text};
+use type_terms::{List, Plain, Text};
 
 /// The greatest number of bytes of a module's text.
 pub const TEXT_LIMIT: u64 = 1048576;
@@ -30,19 +32,20 @@ pub enum Refused {
     TooLong,
     /// It has no tokens within the profile and the limit of integers.
     Lex(LexFault),
-    /// Its tokens are those of no module of those that are read so far.
+    /// Its tokens are those of no flat module.
     NotBuilt,
-    /// A constraint fails.
+    /// A constraint of its module fails.
     Types(FirstRefusal),
 }
 
-impl From<NoMemory> for Refused {
-    ghost use Rattle.etylizer_program.specs.declared.check.Refused.TheVariants.{NoMemory};
+impl From<FirstRefusal> for Refused {
+    ghost from_gives = { λ refusal refused. refused ≡ refused_as refusal };
 
-    ghost from_gives = { λ _ refused. refused ≡ NoMemory };
-
-    fn from(_error: NoMemory) -> Refused {
-        Refused::NoMemory
+    fn from(refusal: FirstRefusal) -> Refused {
+        match refusal {
+            FirstRefusal::NoMemory => Refused::NoMemory,
+            failed => Refused::Types(failed),
+        }
     }
 }
 
@@ -50,9 +53,10 @@ impl From<NoMemory> for Refused {
 ///
 /// # Errors
 ///
-/// `TooLong` exactly where the text has more than `TEXT_LIMIT` bytes, `Lex` where it has no tokens within
-/// the profile, `NotBuilt` where its tokens are those of no module of those that are read so far, `Types` where a constraint fails, and `NoMemory` where memory
-/// runs out.
+/// `TooLong` exactly where the text has more than `TEXT_LIMIT` bytes, whatever they are. Of a text
+/// within that limit: `Lex` where it has no tokens, with the first fault of the lexer; `NotBuilt`
+/// where it has tokens, which are those of no flat module (`docs/LANGUAGE.md`); `Types` where it
+/// spells a flat module, with the first constraint that fails. `NoMemory` where memory runs out.
 pub fn check_text(alloc: Global, text: &[u8]) -> Result<Accepted, Refused>
     ensures safe { IfOk result (λ a. IsAcceptedText text.now a.name a.functions a.clauses) }
     ensures refused { IfErr result (IsTextRefusal text.now) }
@@ -63,20 +67,26 @@ pub fn check_text(alloc: Global, text: &[u8]) -> Result<Accepted, Refused>
     read_and_check(alloc, text)
 }
 
+/// The answer of `check_text`: its other clauses follow from these three.
 fn read_and_check(alloc: Global, text: &[u8]) -> Result<Accepted, Refused>
     ensures safe { IfOk result (λ a. IsAcceptedText text.now a.name a.functions a.clauses) }
     ensures refused { IfErr result (IsTextRefusal text.now) }
     ensures too_long { IsErrOf result Refused.TooLong ↔ (text_limit < length text.now) }
 {
     let tree = read_text(alloc, text)?;
-    check_module(alloc, &tree)
+    Ok(check_module(alloc, &tree)?)
 }
 
 /// The flat module that a text spells.
+///
+/// # Errors
+///
+/// Those of `check_text` without `Types`.
 pub fn read_text(alloc: Global, text: &[u8]) -> Result<Module, Refused>
     ensures read { IfOk result (IsReadAs text.now) }
     ensures refused { IfErr result (IsTextRefusal text.now) }
     ensures too_long { IsErrOf result Refused.TooLong ↔ (text_limit < length text.now) }
+    ensures types { (refusal : Failure) → IsErrOf result (Refused.Types refusal) → ⊥ }
 {
     if text.len() as u64 > TEXT_LIMIT {
         return Err(Refused::TooLong);
@@ -94,6 +104,7 @@ fn read_tokens(alloc: Global, text: &[u8], tokens: &List<Placed>) -> Result<Modu
     ensures read { IfOk result (IsReadAs text.now) }
     ensures refused { IfErr result (IsTextRefusal text.now) }
     ensures short { IsErrOf result Refused.TooLong → ⊥ }
+    ensures types { (refusal : Failure) → IsErrOf result (Refused.Types refusal) → ⊥ }
 {
     match parse_first(alloc, tokens) {
         Ok(tree) => Ok(tree),
@@ -103,42 +114,22 @@ fn read_tokens(alloc: Global, text: &[u8], tokens: &List<Placed>) -> Result<Modu
 }
 
 /// Checks a flat module.
-pub fn check_module(alloc: Global, tree: &Module) -> Result<Accepted, Refused>
+///
+/// # Errors
+///
+/// `Failed` with the first constraint that fails, and `NoMemory` where memory runs out.
+pub fn check_module(alloc: Global, tree: &Module) -> Result<Accepted, FirstRefusal>
     requires { IsFlatModule tree.now }
     ensures accepted { IfOk result (λ a. IsAcceptedModule tree.now a.name a.functions a.clauses) }
-    ensures refused { IfErr result (IsModuleRefusal tree.now) }
+    ensures refused { IfErr result (ShowsFirstFailure tree.now) }
 {
-    match check_first(alloc, tree) {
-        Ok(()) => {
-            let name = tree.name.copy(alloc)?;
-            let forms = tree.forms.as_slice();
-            Ok(Accepted {
-                name,
-                functions: count_functions(forms) as u64,
-                // Each spec of a flat module has one clause.
-                clauses: count_specs(forms) as u64,
-            })
-        }
-        Err(refusal) => Err(refusal_of(refusal)),
-    }
-}
-
-/// Why a text is not accepted whose module is refused.
-fn refusal_of(refusal: FirstRefusal) -> Refused
-    ensures { result ≡ refused_as refusal }
-{
-    match refusal {
-        FirstRefusal::NoMemory => Refused::NoMemory,
-        FirstRefusal::Failed {
-            function,
-            place,
-            kind,
-            shown,
-        } => Refused::Types(FirstRefusal::Failed {
-            function,
-            place,
-            kind,
-            shown,
-        }),
-    }
+    check_first(alloc, tree)?;
+    let name = tree.name.copy(alloc)?;
+    let forms = tree.forms.as_slice();
+    Ok(Accepted {
+        name,
+        functions: count_functions(forms) as u64,
+        // Each spec of a flat module has one clause.
+        clauses: count_specs(forms) as u64,
+    })
 }

@@ -1,9 +1,10 @@
 ghost use Rattle.std.specs.Prelude.{◌≡◌, ◌<◌, ◌≤◌, ℕ, List as Listed, length, IfOk};
 ghost use Rattle.erl_tree.specs.Functions.{functions_of};
+ghost use Rattle.erl_tree.specs.Readable.{IsFlatModule};
 ghost use Rattle.cert_checker.specs.Failures.{ShowsFirstFailure};
-ghost use Rattle.etylizer_program.specs.Check.{text_limit, IsFirstFault, IsModuleVerdict, IsRightVerdict, IsTextRefusal};
+ghost use Rattle.etylizer_program.specs.Check.{text_limit, IsFirstFault, IsModuleVerdict, IsRightVerdict};
 
-use crate::check::{Refused, check_text, read_text};
+use crate::check::{Refused, check_module, read_text};
 use crate::count::function_at;
 use crate::report::{Verdict, Words};
 use cert_checker::{FirstRefusal, Shown};
@@ -16,27 +17,13 @@ use type_terms::{Kind, NoMemory, Plain};
 pub fn judge(alloc: Global, text: &[u8]) -> Result<Verdict, NoMemory>
     ensures { IfOk result (IsRightVerdict text.now) }
 {
-    match check_text(alloc, text) {
-        Ok(accepted) => Ok(Verdict::Accepted {
-            name: accepted.name,
-            functions: accepted.functions,
-            clauses: accepted.clauses,
-        }),
+    match read_text(alloc, text) {
+        Ok(tree) => judge_module(alloc, &tree),
         Err(Refused::NoMemory) => Err(NoMemory),
         Err(Refused::TooLong) => Ok(Verdict::TooLong),
         Err(Refused::Lex(fault)) => fault_verdict(fault),
         Err(Refused::NotBuilt) => Ok(Verdict::NotBuilt),
-        Err(Refused::Types(FirstRefusal::NoMemory)) => unreachable!(),
-        Err(
-            Refused::Types(
-                FirstRefusal::Failed {
-                    function,
-                    place,
-                    kind,
-                    shown,
-                },
-            ),
-        ) => judge_failure(alloc, text, function, place, kind, shown),
+        Err(Refused::Types(_)) => unreachable!(),
     }
 }
 
@@ -66,24 +53,26 @@ fn fault_verdict(fault: LexFault) -> Result<Verdict, NoMemory>
     }
 }
 
-/// The verdict on a text in which a constraint fails, in the function with this number. The text is
-/// read again, to name the function.
-fn judge_failure(
-    alloc: Global,
-    text: &[u8],
-    number: usize,
-    place: Place,
-    kind: Kind,
-    shown: Shown,
-) -> Result<Verdict, NoMemory>
-    requires within { length text.now ≤ text_limit }
-    requires failed { IsTextRefusal text.now (Refused.Types (FirstRefusal.Failed number place kind shown)) }
-    ensures { IfOk result (IsRightVerdict text.now) }
+/// What is to be said of a flat module.
+fn judge_module(alloc: Global, tree: &Module) -> Result<Verdict, NoMemory>
+    requires { IsFlatModule tree.now }
+    ensures { IfOk result (IsModuleVerdict tree.now) }
 {
-    match read_text(alloc, text) {
-        Ok(tree) => failed_verdict(alloc, &tree, number, place, kind, shown),
-        // The text was read before, so memory alone can be wanting.
-        Err(_) => Err(NoMemory),
+    match check_module(alloc, tree) {
+        Ok(accepted) => Ok(Verdict::Accepted {
+            name: accepted.name,
+            functions: accepted.functions,
+            clauses: accepted.clauses,
+        }),
+        Err(FirstRefusal::NoMemory) => Err(NoMemory),
+        Err(
+            FirstRefusal::Failed {
+                function,
+                place,
+                kind,
+                shown,
+            },
+        ) => failed_verdict(alloc, tree, function, place, kind, shown),
     }
 }
 

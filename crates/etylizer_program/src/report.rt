@@ -31,24 +31,26 @@ pub enum Verdict {
         kind: Kind,
         shown: Shown,
     },
-    /// The text has no tokens, or none that are read: why, and where.
+    /// The text is UTF-8, within the limit of length, and has no tokens: the first fault of the lexer,
+    /// and where it stands.
     NotText {
         place: Place,
         words: Words,
     },
-    /// The bytes aren't UTF-8 from this one on, counted from 0.
+    /// The text is within the limit of length and isn't UTF-8: the first ill-formed sequence begins at
+    /// this byte, counted from 0.
     NotUtf8 {
         at: u64,
     },
     /// The text is longer than a module may be.
     TooLong,
-    /// The text spells no module of those that are read so far.
+    /// The text is within the limit of length and has tokens, which are those of no flat module.
     NotBuilt,
     /// The words are no command.
     Usage,
 }
 
-/// Why a text is no module.
+/// Why a text has no tokens.
 #[derive(Drop)]
 pub enum Words {
     BadToken,

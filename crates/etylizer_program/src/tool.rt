@@ -23,7 +23,7 @@ const REFUSED: Status = 1;
 
 const USAGE: Status = 2;
 
-/// A text that is too long, or that is no module of those that are read so far.
+/// A text that is too long, that has a fault of the lexer, or whose tokens are those of no flat module.
 const NOT_A_MODULE: Status = 3;
 
 const READ_FAULT: Status = 4;
@@ -48,9 +48,10 @@ pub fn run_tool<F: Files, O: Sink>(
     // A report tells the truth about the file.
     ensures judged { result < 4 → result ≢ 2 → Judges result (map string_bytes words.now.items) (F.held files.old) (O.written out.old) (O.written out.new) }
 
-    // A text within the limit that spells a flat module whose constraints all hold is accepted, and
-    // one that spells no flat module gets "not built yet", where the files tell what they hold, and
-    // unless the files or the sink fail or memory runs out.
+    // A text within the limit whose tokens are those of a flat module, all of whose constraints hold,
+    // is accepted, and one whose tokens are those of no flat module gets "not built yet", where the
+    // files tell what they hold, and unless the files or the sink fail or memory runs out. A text
+    // with a fault of the lexer has no tokens: `judged` says that its report is that of its fault.
     ensures complete { NamesRightModule (map string_bytes words.now.items) (F.held files.old) → (Rose (F.faults files.old) (F.faults files.new) → ⊥) → (Rose (O.faults out.old) (O.faults out.new) → ⊥) → (result ≡ 0) ⊎ (result ≡ 6) }
     ensures not_built { NamesNoModule (map string_bytes words.now.items) (F.held files.old) → (Rose (F.faults files.old) (F.faults files.new) → ⊥) → (Rose (O.faults out.old) (O.faults out.new) → ⊥) → ((result ≡ 3) × Puts (O.written out.old) (O.written out.new) (report_text Verdict.NotBuilt)) ⊎ (result ≡ 6) }
 

@@ -1,11 +1,8 @@
 use Rattle.std.proofs.Common.{arith}
 use Rattle.std.proofs.lemmas.Grind.{common_steps}
-use Rattle.etylizer_program.proofs.Verdicts.{accepted_module, refusal_right}
+use Rattle.etylizer_program.proofs.Verdicts.{accepted_module}
 use Rattle.etylizer_program.proofs.check.check_module.Goals as goal
 
-pub returns-in_ok-name-in-Ok-clause-accepted : goal.returns-in_ok-name-in-Ok-clause-accepted
-returns-in_ok-name-in-Ok-clause-accepted c =
-    accepted_module c.args.tree.now c.in_ok-name-in-Ok.name c.count_functions.result c.count_specs.result c.requires c.in-Ok.ensures.holds c.in-Ok.ensures.safe c.in_ok-name-in-Ok.ensures (grind (arith, common_steps)) (grind (arith, common_steps))
-
-pub returns-in-Err-clause-refused : goal.returns-in-Err-clause-refused
-returns-in-Err-clause-refused c = refusal_right c.args.tree.now c.in-Err.refusal c.refusal_of.result c.refusal_of.ensures c.in-Err.ensures.failed
+pub returns-clause-accepted : goal.returns-clause-accepted
+returns-clause-accepted c =
+    accepted_module c.args.tree.now c.in_ok-name.name c.count_functions.result c.count_specs.result c.requires c.in_ok-check_first.ensures.holds c.in_ok-check_first.ensures.safe c.in_ok-name.ensures (grind (arith, common_steps)) (grind (arith, common_steps))

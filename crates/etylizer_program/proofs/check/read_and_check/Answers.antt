@@ -1,5 +1,11 @@
-use Rattle.etylizer_program.proofs.Verdicts.{accepted_text}
+use Rattle.std.proofs.lemmas.Result.{err_from_is_err_and}
+use Rattle.etylizer_program.proofs.Verdicts.{text_accepted, text_refused}
 use Rattle.etylizer_program.proofs.check.read_and_check.Goals as goal
 
+pub returns-in_err-check_module-clause-refused : goal.returns-in_err-check_module-clause-refused
+returns-in_err-check_module-clause-refused c =
+    let p = err_from_is_err_and c.from_residual-in_err-check_module.result c.from_residual-in_err-check_module.ensures.1 in
+    rw (p.1) (text_refused c.args.text.now c.in_ok-tree.tree c.in_err-check_module.field-0.0 p.0 p.2 c.in_ok-tree.ensures.read c.in_err-check_module.ensures.refused)
+
 pub returns-clause-safe : goal.returns-clause-safe
-returns-clause-safe c = accepted_text c.args.text.now c.in_ok-tree.tree c.check_module.result c.in_ok-tree.ensures.read c.check_module.ensures.accepted
+returns-clause-safe c = text_accepted c.args.text.now c.in_ok-tree.tree c.in_ok-check_module.field-0.name c.in_ok-check_module.field-0.functions c.in_ok-check_module.field-0.clauses c.in_ok-tree.ensures.read c.in_ok-check_module.ensures.accepted
