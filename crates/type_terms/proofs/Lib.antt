@@ -12,3 +12,15 @@ pub mod SmallCases
 pub mod IntegerOrder
 pub mod ReplacementParts
 pub mod ListExamples
+pub mod UndefinedLaws
+pub mod UndefinedLists
+pub mod Induction
+pub mod BareLaws
+pub mod OpennessLaws
+pub mod MarkLaws
+pub mod PathLaws
+pub mod UndefinedMeaning
+pub mod DefinitionLaws
+pub mod MoreExamples
+pub mod SimpleTerms
+pub mod SignLaws

@@ -1,16 +1,24 @@
 //! Type terms, their definitions and specs, and the lists that all crates of the checker are made of.
 #![tactic(auto)]
 
+mod defs;
 pub mod examples;
 pub mod laws;
 mod list;
+mod names;
+mod open_table;
+mod openness;
+mod paths;
 mod plain;
+mod replacement;
 mod spec;
 mod term;
 mod term_copy;
 
+pub use defs::{DefFault, Defs};
 pub use list::{Bytes, List, NoMemory, Text};
 pub use plain::Plain;
+pub use replacement::replace;
 pub use spec::{Arrow, FunSpec, Kind};
 pub use term::{Def, Field, Key, Term};
 
