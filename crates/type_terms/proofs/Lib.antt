@@ -24,3 +24,9 @@ pub mod DefinitionLaws
 pub mod MoreExamples
 pub mod SimpleTerms
 pub mod SignLaws
+pub mod SignTableLaws
+pub mod SignListLaws
+pub mod SignViews
+pub mod SignParts
+pub mod SignMeaning
+pub mod SignTableSteps

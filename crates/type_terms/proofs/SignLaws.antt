@@ -20,7 +20,7 @@ use Rattle.type_terms.proofs.ReplacementParts as Parts
 abbrev pub both : Bool → Bool → Bool
 both outer inner = cond outer (not inner) inner
 
-both-not : (outer inner : Bool) → not (both outer inner) ≡ both (not outer) inner
+pub both-not : (outer inner : Bool) → not (both outer inner) ≡ both (not outer) inner
 both-not false inner = refl
 both-not true true = refl
 both-not true false = refl

@@ -10,5 +10,6 @@ pub mod Paths
 pub mod Undefined
 pub mod Refusals
 pub mod Signs
+pub mod SignTables
 pub mod Instances
 pub mod Reading

@@ -1,20 +1,24 @@
 //! Lists of type definitions.
 
 ghost use Rattle.std.specs.Option.{option_copied};
-ghost use Rattle.std.specs.Prelude.{◌≡◌, ◌++◌, ◌^◌, ◌<◌, ℕ, IfOk, MatchOption, MatchResult, OnOk, length, reverse, slice_get, take};
+ghost use Rattle.std.specs.Prelude.{◌≡◌, ◌++◌, ◌^◌, ◌<◌, ◌↔◌, ℕ, IfOk, IsTrue, MatchOption, MatchResult, OnOk, length, reverse, slice_get, take};
 ghost use Rattle.std.specs.Prelude.{None as Nothing};
 ghost use Rattle.type_terms.specs.Definitions.{AreDefinitions, Reaches};
 ghost use Rattle.type_terms.specs.Openness.{names_by};
 ghost use Rattle.type_terms.specs.Refusals.{AreWellMade, IsRefusedAs};
+ghost use Rattle.type_terms.specs.SignTables.{IsSignTable};
+ghost use Rattle.type_terms.specs.Signs.{IsWellSigned};
 ghost use Rattle.type_terms.specs.Undefined.{undefined_among};
 ghost use Rattle.type_terms.specs.declared.defs.DefFault.TheVariants as faults;
 
 use crate::list::{List, NoMemory};
-use crate::names::undefined_in_bodies;
+use crate::names::{undefined_in, undefined_in_bodies};
 use crate::open_table::open_table;
 use crate::openness::{Wanted, find_bare};
 use crate::paths::least_on_cycle;
-use crate::term::Def;
+use crate::sign_search::{DefSigns, Sought, signs_in};
+use crate::sign_table::sign_table;
+use crate::term::{Def, Term};
 use std::alloc::Global;
 use std::marker::Model;
 
@@ -42,6 +46,8 @@ impl From<NoMemory> for DefFault {
 pub struct Defs {
     alloc: Global,
     list: List<Def>,
+    /// How fun types and parameters stand in each body.
+    signs: List<DefSigns>,
 }
 
 impl Model for Defs {
@@ -55,10 +61,11 @@ impl Model for Defs {
     ghost coded = { coded_list def_contract.the_row.coded };
 
     ghost use Rattle.type_terms.specs.Definitions.{AreDefinitions};
+    ghost use Rattle.type_terms.specs.SignTables.{IsSignTable};
 
     ghost view = { λ d. d.list };
 
-    ghost invariant = { λ d. AreDefinitions d.list };
+    ghost invariant = { λ d. AreDefinitions d.list × IsSignTable d.list d.signs };
 }
 
 impl Defs {
@@ -73,8 +80,8 @@ impl Defs {
         requires { AreWellMade list }
         ensures { MatchResult result (λ defs. (defs ≡ list) × AreDefinitions list) (λ fault. IsRefusedAs list fault) }
     {
-        check_definitions(alloc, list.as_slice())?;
-        Ok(Defs { alloc, list })
+        let signs = check_definitions(alloc, list.as_slice())?;
+        Ok(Defs { alloc, list, signs })
     }
 
     /// Adds definitions, whose numbers follow those that stand. A refusal leaves what stood.
@@ -86,10 +93,12 @@ impl Defs {
         requires { AreWellMade (self.old ++ more) }
         ensures { MatchResult result (λ _. (self.new ≡ self.old ++ more) × AreDefinitions (self.old ++ more)) (λ fault. (self.new ≡ self.old) × IsRefusedAs (self.old ++ more) fault) }
     {
-        add_definitions(self.alloc, &mut self.list, more)
+        let signs = add_definitions(self.alloc, &mut self.list, more)?;
+        self.signs = signs;
+        Ok(())
     }
 
-    /// The definition of a number; `None` where it isn't below the count.
+    /// The definition of a number; `None` where it isn't below the count. Takes no memory.
     pub fn get(&self, number: u32) -> Option<&Def>
         ensures { option_copied result ≡ slice_get self.now number }
     {
@@ -97,10 +106,25 @@ impl Defs {
     }
 }
 
-/// Adds definitions to a list, which is as it was where they are refused.
-fn add_definitions(alloc: Global, list: &mut List<Def>, more: List<Def>) -> Result<(), DefFault>
+/// Whether the term is well signed: each of its names is defined, and neither a fun type nor a
+/// variable stands under an odd number of negations, at any depth and through names. Takes no memory.
+pub fn well_signed(term: &Term, defs: &Defs) -> bool
+    ensures { IsTrue result ↔ IsWellSigned defs.now term.now }
+{
+    match undefined_in(defs.list.as_slice(), term) {
+        Some(_) => false,
+        None => !signs_in(defs.signs.as_slice(), Sought::FunsAndVariables, term).odd,
+    }
+}
+
+/// Adds definitions to a list, which is as it was where they are refused, and answers their signs.
+fn add_definitions(
+    alloc: Global,
+    list: &mut List<Def>,
+    more: List<Def>,
+) -> Result<List<DefSigns>, DefFault>
     requires { AreWellMade (list.old ++ more) }
-    ensures { MatchResult result (λ _. (list.new ≡ list.old ++ more) × AreDefinitions (list.old ++ more)) (λ fault. (list.new ≡ list.old) × IsRefusedAs (list.old ++ more) fault) }
+    ensures { MatchResult result (λ signs. (list.new ≡ list.old ++ more) × AreDefinitions (list.old ++ more) × IsSignTable (list.old ++ more) signs) (λ fault. (list.new ≡ list.old) × IsRefusedAs (list.old ++ more) fault) }
 {
     let more = turned(alloc, more)?;
     let count = list.len();
@@ -111,16 +135,21 @@ fn add_definitions(alloc: Global, list: &mut List<Def>, more: List<Def>) -> Resu
     answer
 }
 
-/// Adds definitions to the end of a list, which begins as it was, be they refused or not.
-fn push_and_check(alloc: Global, list: &mut List<Def>, more: List<Def>) -> Result<(), DefFault>
+/// Adds definitions to the end of a list, which begins as it was, be they refused or not, and answers
+/// their signs.
+fn push_and_check(
+    alloc: Global,
+    list: &mut List<Def>,
+    more: List<Def>,
+) -> Result<List<DefSigns>, DefFault>
     requires { AreWellMade (list.old ++ reverse more) }
     ensures begins { take (length list.old) list.new ≡ list.old }
-    ensures checked { MatchResult result (λ _. (list.new ≡ list.old ++ reverse more) × AreDefinitions (list.old ++ reverse more)) (λ fault. IsRefusedAs (list.old ++ reverse more) fault) }
+    ensures checked { MatchResult result (λ signs. (list.new ≡ list.old ++ reverse more) × AreDefinitions (list.old ++ reverse more) × IsSignTable (list.old ++ reverse more) signs) (λ fault. IsRefusedAs (list.old ++ reverse more) fault) }
 {
     push_turned(list, more)?;
     let whole = list.as_slice();
-    check_definitions(alloc, whole)?;
-    Ok(())
+    let signs = check_definitions(alloc, whole)?;
+    Ok(signs)
 }
 
 /// The definitions from last to first.
@@ -156,10 +185,10 @@ fn cut(list: &mut List<Def>, count: usize)
     }
 }
 
-/// Whether the definitions are what they have to be.
-fn check_definitions(alloc: Global, defs: &[Def]) -> Result<(), DefFault>
+/// The signs of the definitions, if these are what they have to be.
+fn check_definitions(alloc: Global, defs: &[Def]) -> Result<List<DefSigns>, DefFault>
     requires { AreWellMade defs.now }
-    ensures { MatchResult result (λ _. AreDefinitions defs.now) (λ fault. IsRefusedAs defs.now fault) }
+    ensures { MatchResult result (λ signs. AreDefinitions defs.now × IsSignTable defs.now signs) (λ fault. IsRefusedAs defs.now fault) }
 {
     if defs.len() > u32::MAX as usize {
         return Err(DefFault::NoMemory);
@@ -170,16 +199,19 @@ fn check_definitions(alloc: Global, defs: &[Def]) -> Result<(), DefFault>
     }
 }
 
-/// Whether no definition reaches itself, where each name is defined.
-fn check_contractive(alloc: Global, defs: &[Def]) -> Result<(), DefFault>
+/// The signs of the definitions, if none reaches itself, where each name is defined.
+fn check_contractive(alloc: Global, defs: &[Def]) -> Result<List<DefSigns>, DefFault>
     requires made { AreWellMade defs.now }
     requires fewer { length defs.now < 2 ^ 32 }
     requires named { undefined_among defs.now ≡ Nothing }
-    ensures { MatchResult result (λ _. AreDefinitions defs.now) (λ fault. IsRefusedAs defs.now fault) }
+    ensures { MatchResult result (λ signs. AreDefinitions defs.now × IsSignTable defs.now signs) (λ fault. IsRefusedAs defs.now fault) }
 {
     match first_reaching_itself(alloc, defs)? {
         Some(number) => Err(DefFault::NotContractive(number)),
-        None => Ok(()),
+        None => {
+            let signs = sign_table(alloc, defs)?;
+            Ok(signs)
+        }
     }
 }
 

@@ -11,11 +11,13 @@ mod openness;
 mod paths;
 mod plain;
 mod replacement;
+mod sign_search;
+mod sign_table;
 mod spec;
 mod term;
 mod term_copy;
 
-pub use defs::{DefFault, Defs};
+pub use defs::{DefFault, Defs, well_signed};
 pub use list::{Bytes, List, NoMemory, Text};
 pub use plain::Plain;
 pub use replacement::replace;
