@@ -1,10 +1,10 @@
 -- Paths stay in a closed set and descend in ranks.
-use Rattle.std.proofs.Common.{◌≡◌, sym, ◌∙◌, subst, ℕ, zero, suc, ◌<◌, List, [], ◌∷◌, ◌++◌, length, get_or, Bool, true, false, arith}
+use Rattle.std.proofs.Common.{◌≡◌, sym, ◌∙◌, subst, ℕ, zero, suc, ◌<◌, ◌≤◌, List, [], ◌∷◌, ◌++◌, length, get_or, Bool, true, false, arith}
 use Rattle.std.proofs.lemmas.Bool.{false≢true}
 use Rattle.std.proofs.lemmas.List.{get_or_default}
 use Rattle.std.proofs.lemmas.List.Elements.{Contains-push, Contains-append_left}
 use Rattle.std.specs.List.{Contains}
-use Rattle.type_terms.specs.Graphs.{Descends, AreIn, IsClosed}
+use Rattle.type_terms.specs.Graphs.{FallsFrom, NeverRises, AreIn, IsClosed}
 use Rattle.type_terms.specs.Paths.{IsPath, edge, onward}
 use Rattle.type_terms.proofs.Contained.{contains-none}
 
@@ -12,12 +12,12 @@ pub path-inside : (graph : List (List ℕ)) (set : List Bool) (n m : ℕ) → Ar
 path-inside graph set n _ start closed (edge _ m c) = start m c
 path-inside graph set n _ start closed (onward _ k m p c) = closed k (path-inside graph set n k start closed p) m c
 
-path-descends : (graph : List (List ℕ)) (ranks : List ℕ) → Descends graph ranks → (n m : ℕ) → IsPath graph n m → get_or ranks m 0 < get_or ranks n 0
-path-descends graph ranks d n _ (edge _ m c) = d n m c
-path-descends graph ranks d n _ (onward _ k m p c) = let a : get_or ranks k 0 < get_or ranks n 0 = path-descends graph ranks d n k p in let b : get_or ranks m 0 < get_or ranks k 0 = d k m c in omega arith
+path-falls : (graph : List (List ℕ)) (ranks : List ℕ) → NeverRises graph ranks → (n m : ℕ) → FallsFrom graph ranks n → IsPath graph n m → get_or ranks m 0 < get_or ranks n 0
+path-falls graph ranks r n _ f (edge _ m c) = f m c
+path-falls graph ranks r n _ f (onward _ k m p c) = let a : get_or ranks k 0 < get_or ranks n 0 = path-falls graph ranks r n k f p in let b : get_or ranks m 0 ≤ get_or ranks k 0 = r k m c in omega arith
 
-pub no-cycle : (graph : List (List ℕ)) (ranks : List ℕ) → Descends graph ranks → (n : ℕ) → IsPath graph n n → ⊥
-no-cycle graph ranks d n p = let a : get_or ranks n 0 < get_or ranks n 0 = path-descends graph ranks d n n p in omega arith
+pub no-cycle : (graph : List (List ℕ)) (ranks : List ℕ) → NeverRises graph ranks → (n : ℕ) → FallsFrom graph ranks n → IsPath graph n n → ⊥
+no-cycle graph ranks r n f p = let a : get_or ranks n 0 < get_or ranks n 0 = path-falls graph ranks r n n f p in omega arith
 
 node-inside : (graph : List (List ℕ)) (n m : ℕ) → Contains (get_or graph n []) m → n < length graph
 node-inside [] n m c = absurd (contains-none m c)

@@ -13,6 +13,7 @@ ghost use Rattle.type_terms.specs.declared.defs.DefFault.TheVariants as faults;
 
 use crate::list::{List, NoMemory};
 use crate::names::{undefined_in, undefined_in_bodies};
+use crate::naming::naming_graph;
 use crate::open_table::open_table;
 use crate::openness::{Wanted, find_bare};
 use crate::paths::least_on_cycle;
@@ -206,21 +207,26 @@ fn check_contractive(alloc: Global, defs: &[Def]) -> Result<List<DefSigns>, DefF
     requires named { undefined_among defs.now ≡ Nothing }
     ensures { MatchResult result (λ signs. AreDefinitions defs.now × IsSignTable defs.now signs) (λ fault. IsRefusedAs defs.now fault) }
 {
-    match first_reaching_itself(alloc, defs)? {
+    let graph = naming_graph(alloc, defs)?;
+    match first_reaching_itself(alloc, defs, &graph)? {
         Some(number) => Err(DefFault::NotContractive(number)),
         None => {
-            let signs = sign_table(alloc, defs)?;
+            let signs = sign_table(alloc, defs, &graph)?;
             Ok(signs)
         }
     }
 }
 
 /// The least definition that reaches itself.
-fn first_reaching_itself(alloc: Global, defs: &[Def]) -> Result<Option<u32>, NoMemory>
+fn first_reaching_itself(
+    alloc: Global,
+    defs: &[Def],
+    graph: &[List<u32>],
+) -> Result<Option<u32>, NoMemory>
     requires { length defs.now < 2 ^ 32 }
     ensures { IfOk result (λ answer. MatchOption answer ((n : ℕ) → Reaches defs.now n n → ⊥) (λ n. Reaches defs.now n n × ((m : ℕ) → m < n → Reaches defs.now m m → ⊥))) }
 {
-    let table = open_table(alloc, defs)?;
+    let table = open_table(alloc, defs, graph)?;
     let names = named_in(alloc, defs, &table)?;
     let answer = least_on_cycle(alloc, &names)?;
     Ok(answer)

@@ -4,8 +4,10 @@
 mod defs;
 pub mod examples;
 pub mod laws;
+mod graph;
 mod list;
 mod names;
+mod naming;
 mod open_table;
 mod openness;
 mod paths;

@@ -6,36 +6,40 @@ ghost use Rattle.type_terms.specs.BareNumbers.{open_by};
 ghost use Rattle.type_terms.specs.Openness.{OpenWhereSaid, SaysAll, SaysOpen};
 
 use crate::list::{List, NoMemory};
+use crate::naming::Worklist;
 use crate::openness::{Wanted, find_bare, is_open};
-use crate::term::{Def, Term};
+use crate::term::Def;
 use std::alloc::Global;
 
 /// For each definition, whether it is open in its parameters; what a list lacks isn't open.
-/// A definition is looked at again where one that its body names turns out to be open in a further
-/// parameter.
+/// The graph has for each definition those that its body names: a definition is looked at again
+/// where one of these turns out to be open in a further parameter.
 ///
 /// # Errors
 ///
 /// `NoMemory` where memory runs out.
-pub(crate) fn open_table(alloc: Global, defs: &[Def]) -> Result<Vec<List<bool>>, NoMemory>
+pub(crate) fn open_table(
+    alloc: Global,
+    defs: &[Def],
+    graph: &[List<u32>],
+) -> Result<Vec<List<bool>>, NoMemory>
     ensures said { IfOk result (λ table. OpenWhereSaid defs.now table.items) }
     ensures all { IfOk result (λ table. SaysAll defs.now table.items) }
 {
-    let users = users_of(alloc, defs)?;
+    let mut worklist = Worklist::new(alloc, graph)?;
     let mut table = empty_lists(alloc, defs.len())?;
-    let mut waiting = List::new(alloc);
     for _step in 0..u64::MAX {
-        match waiting.pop() {
+        match worklist.next() {
             Some(number) => {
                 if look_at(alloc, defs, number, &mut table)? {
-                    add_users(&users, number, &mut waiting)?;
+                    worklist.add_users(number)?;
                 }
             }
             None => {
                 if is_settled(alloc, defs, &table)? {
                     return Ok(table);
                 }
-                add_all(defs, &mut waiting)?;
+                worklist = Worklist::new(alloc, graph)?;
             }
         }
     }
@@ -129,79 +133,4 @@ pub(crate) fn empty_lists<T: Drop>(alloc: Global, count: usize) -> Result<Vec<Li
         lists.push(List::new(alloc))?;
     }
     Ok(lists)
-}
-
-fn add_all(defs: &[Def], waiting: &mut List<u32>) -> Result<(), NoMemory> {
-    let mut number: u32 = 0;
-    for _ in defs {
-        waiting.push(number)?;
-        number = number.wrapping_add(1);
-    }
-    Ok(())
-}
-
-fn add_users(users: &[List<u32>], number: u32, waiting: &mut List<u32>) -> Result<(), NoMemory> {
-    if let Some(list) = sqlite_items::at(users, number as usize) {
-        for user in list.as_slice() {
-            waiting.push(*user)?;
-        }
-    }
-    Ok(())
-}
-
-/// For each definition, those that name it outside every constructor.
-fn users_of(alloc: Global, defs: &[Def]) -> Result<Vec<List<u32>>, NoMemory> {
-    let mut users = empty_lists(alloc, defs.len())?;
-    let mut number: u32 = 0;
-    for def in defs {
-        let mut named = List::new(alloc);
-        find_named(&def.body, &mut named)?;
-        add_user(&mut users, named.as_slice(), number)?;
-        number = number.wrapping_add(1);
-    }
-    Ok(users)
-}
-
-pub(crate) fn add_user(users: &mut [List<u32>], named: &[u32], user: u32) -> Result<(), NoMemory> {
-    for number in named {
-        let at = *number as usize;
-        if at < users.len() {
-            users[at].push(user)?;
-        }
-    }
-    Ok(())
-}
-
-/// The names in a term that stand under no constructor, be it in an argument.
-#[cycle(named)]
-fn find_named(term: &Term, named: &mut List<u32>) -> Result<(), NoMemory> {
-    match term {
-        Term::Or(parts) | Term::And(parts) => find_all_named(parts.as_slice(), named),
-        Term::Not(negated) => find_named(negated.get(), named),
-        Term::Name(number, arguments) => {
-            named.push(*number)?;
-            find_all_named(arguments.as_slice(), named)
-        }
-        Term::Any
-        | Term::None
-        | Term::Ints(_, _)
-        | Term::AtomLit(_)
-        | Term::AnyAtom
-        | Term::Nil
-        | Term::Cons(_, _)
-        | Term::Tuple(_)
-        | Term::AnyTuple
-        | Term::Map { .. }
-        | Term::Fun(_, _)
-        | Term::AnyFun(_)
-        | Term::Var(_) => Ok(()),
-    }
-}
-
-#[cycle(named)]
-fn find_all_named(terms: &[Term], named: &mut List<u32>) -> Result<(), NoMemory> {
-    for term in terms {
-        find_named(term, named)?;
-    }
-    Ok(())
 }

@@ -1,12 +1,13 @@
 //! Cycles in a graph, which has for each node the list of those that follow it.
 
 ghost use Rattle.std.specs.List.{Contains};
-ghost use Rattle.std.specs.Prelude.{◌≡◌, ◌<◌, ◌⊎◌, ◌^◌, ◌↔◌, [], ℕ, IfOk, IsTrue, MatchOption, false, get_or, length, true};
-ghost use Rattle.type_terms.specs.Graphs.{AreIn, Descends, IsClosed};
+ghost use Rattle.std.specs.Prelude.{◌≡◌, ◌<◌, ◌≤◌, ◌⊎◌, ◌^◌, ◌↔◌, [], ℕ, IfOk, IsTrue, MatchOption, false, get_or, length, true};
+ghost use Rattle.type_terms.specs.Graphs.{AreIn, FallsFrom, IsClosed, NeverRises};
 ghost use Rattle.type_terms.specs.Paths.{IsPath};
 
+use crate::graph::{component_ranks, followers, is_in};
 use crate::list::{List, NoMemory};
-use crate::open_table::{add_user, empty_lists, mark_in};
+use crate::open_table::mark_in;
 use std::alloc::Global;
 
 /// The least node from which a path leads back to it.
@@ -18,9 +19,16 @@ pub(crate) fn least_on_cycle(alloc: Global, graph: &[List<u32>]) -> Result<Optio
     requires { length graph.now < 2 ^ 32 }
     ensures { IfOk result (λ answer. MatchOption answer ((n : ℕ) → IsPath graph.now n n → ⊥) (λ n. IsPath graph.now n n × ((m : ℕ) → m < n → IsPath graph.now m m → ⊥))) }
 {
-    let ranks = ranks_of(alloc, graph)?;
-    if descends(graph, ranks.as_slice()) {
-        return Ok(None);
+    let by_node = component_ranks(alloc, graph)?;
+    let ranks = by_node.as_slice();
+    let first = first_not_falling(graph, ranks);
+    if never_rises(graph, ranks) {
+        if first >= graph.len() {
+            return Ok(None);
+        }
+        if reaches_itself(alloc, graph, first)? {
+            return Ok(Some(first as u32));
+        }
     }
     'nodes: for node in 0..graph.len() {
         if reaches_itself(alloc, graph, node)? {
@@ -97,25 +105,6 @@ fn add_members(set: &[bool], waiting: &mut List<u32>) -> Result<(), NoMemory>
     Ok(())
 }
 
-/// What follows a node.
-fn followers(graph: &[List<u32>], node: usize) -> &[u32]
-    ensures { result.now ≡ get_or graph.now node [] }
-{
-    match sqlite_items::at(graph, node) {
-        Some(list) => list.as_slice(),
-        None => &[],
-    }
-}
-
-fn is_in(set: &[bool], node: usize) -> bool
-    ensures { result ≡ get_or set.now node false }
-{
-    match set.get(node) {
-        Some(answer) => *answer,
-        None => false,
-    }
-}
-
 fn are_in(set: &[bool], nodes: &[u32]) -> bool
     ensures { IsTrue result → AreIn set.now nodes.now }
 {
@@ -138,58 +127,24 @@ fn is_closed(graph: &[List<u32>], set: &[bool]) -> bool
     true
 }
 
-/// A rank for each node, which falls along each edge where there is no cycle: a node's place in an
-/// order in which it comes after all that follow it.
-fn ranks_of(alloc: Global, graph: &[List<u32>]) -> Result<List<usize>, NoMemory> {
-    let mut users = empty_lists(alloc, graph.len())?;
-    let mut ranks = List::new(alloc);
-    let mut left = List::new(alloc);
-    let mut order = List::new(alloc);
-    let mut node: u32 = 0;
-    for list in graph {
-        add_user(&mut users, list.as_slice(), node)?;
-        ranks.push(0)?;
-        left.push(list.len())?;
-        if list.is_empty() {
-            order.push(node)?;
-        }
-        node = node.wrapping_add(1);
-    }
-    for place in 0..graph.len() {
-        match order.get(place) {
-            None => return Ok(ranks),
-            Some(found) => {
-                let found = *found as usize;
-                if found < ranks.len() {
-                    ranks.set(found, place);
-                }
-                release(followers(&users, found), &mut left, &mut order)?;
-            }
-        }
-    }
-    Ok(ranks)
-}
-
-/// One more follower of these nodes has its place.
-fn release(nodes: &[u32], left: &mut List<usize>, order: &mut List<u32>) -> Result<(), NoMemory> {
-    for node in nodes {
-        let at = *node as usize;
-        if let Some(count) = left.get(at) {
-            let count = count.saturating_sub(1);
-            left.set(at, count);
-            if count == 0 {
-                order.push(*node)?;
-            }
-        }
-    }
-    Ok(())
-}
-
-fn descends(graph: &[List<u32>], ranks: &[usize]) -> bool
-    ensures { IsTrue result → Descends graph.now ranks.now }
+/// The least node from which the rank does not fall along each edge; the count if it falls from all.
+fn first_not_falling(graph: &[List<u32>], ranks: &[usize]) -> usize
+    ensures falls { (n : ℕ) → n < result → FallsFrom graph.now ranks.now n }
 {
     'nodes: for node in 0..graph.len() {
         if !are_below(ranks, rank_of(ranks, node), followers(graph, node)) {
+            return node;
+        }
+    }
+    graph.len()
+}
+
+/// Whether the rank rises along no edge.
+fn never_rises(graph: &[List<u32>], ranks: &[usize]) -> bool
+    ensures { IsTrue result → NeverRises graph.now ranks.now }
+{
+    'nodes: for node in 0..graph.len() {
+        if !are_at_most(ranks, rank_of(ranks, node), followers(graph, node)) {
             return false;
         }
     }
@@ -201,6 +156,17 @@ fn are_below(ranks: &[usize], rank: usize, nodes: &[u32]) -> bool
 {
     'nodes: for node in nodes {
         if rank_of(ranks, *node as usize) >= rank {
+            return false;
+        }
+    }
+    true
+}
+
+fn are_at_most(ranks: &[usize], rank: usize, nodes: &[u32]) -> bool
+    ensures { IsTrue result → (m : ℕ) → Contains nodes.now m → get_or ranks.now m 0 ≤ rank }
+{
+    'nodes: for node in nodes {
+        if rank_of(ranks, *node as usize) > rank {
             return false;
         }
     }

@@ -23,20 +23,28 @@ ghost use Rattle.type_terms.specs.declared.sign_search.Sought.TheVariants.{Funs,
 ghost use Rattle.type_terms.specs.declared.term.Def.{Def};
 
 use crate::list::{List, NoMemory};
+use crate::naming::Worklist;
 use crate::sign_search::{DefSigns, Signs, Sought, either, nowhere, sign_at, signs_in};
 use crate::term::Def;
 use std::alloc::Global;
 
-/// For each definition, how fun types and its parameters stand in its body, through names.
+/// For each definition, how fun types and its parameters stand in its body, through names. The graph
+/// has for each definition those that its body names.
 ///
 /// # Errors
 ///
 /// `NoMemory` where memory runs out.
-pub(crate) fn sign_table(alloc: Global, defs: &[Def]) -> Result<List<DefSigns>, NoMemory>
+pub(crate) fn sign_table(
+    alloc: Global,
+    defs: &[Def],
+    graph: &[List<u32>],
+) -> Result<List<DefSigns>, NoMemory>
     requires { AreWellMade defs.now }
     ensures { IfOk result (λ table. IsSignTable defs.now table) }
 {
     let mut table = empty_table(alloc, defs)?;
+    let mut worklist = Worklist::new(alloc, graph)?;
+    raise_waiting(alloc, defs, &mut worklist, &mut table)?;
     let mut is_new = true;
     'rounds: while is_new {
         is_new = raise_all(alloc, defs, &mut table)?;
@@ -66,6 +74,30 @@ fn empty_row(alloc: Global, def: &Def) -> Result<DefSigns, NoMemory>
         funs: nowhere(),
         parameters,
     })
+}
+
+/// Raises the rows of the definitions that wait, and of those that name one whose row was raised.
+fn raise_waiting(
+    alloc: Global,
+    defs: &[Def],
+    worklist: &mut Worklist,
+    table: &mut List<DefSigns>,
+) -> Result<(), NoMemory>
+    requires made { AreWellMade defs.now }
+    requires said { IsTableOf defs.now table.old }
+    ensures { IfOk result (λ _. IsTableOf defs.now table.new) }
+{
+    'steps: for _step in 0..u64::MAX {
+        match worklist.next() {
+            None => break,
+            Some(number) => {
+                if raise_at(alloc, defs, number as usize, table)? {
+                    worklist.add_users(number)?;
+                }
+            }
+        }
+    }
+    Ok(())
 }
 
 /// Adds to each row what stands in its body by the table, and answers whether something is new.
