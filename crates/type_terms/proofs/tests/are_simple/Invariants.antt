@@ -4,4 +4,4 @@ use Rattle.type_terms.specs.Definitions.{FieldsAscend, VariablesBelow}
 use Rattle.type_terms.proofs.tests.are_simple.Given as goal
 
 abbrev pub invariant-bodies : goal.invariant-bodies
-invariant-bodies l = (k : ℕ) → k < l.def-index → (def : Def) → def ≡ get_or l.defs k def → VariablesBelow 0 def.body × FieldsAscend def.body
+invariant-bodies l = (k : ℕ) → k < l.def-index → (def : Def) → def ≡ get_or l.defs k def → VariablesBelow def.params def.body × FieldsAscend def.body
