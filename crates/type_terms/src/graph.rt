@@ -116,10 +116,7 @@ fn enter(node: u32, seen: &mut List<bool>, way: &mut List<Visit>) -> Result<(), 
 
 /// A rank for each node, which falls along each edge, except that it stays the same along an edge
 /// of a cycle.
-pub(crate) fn component_ranks(
-    alloc: Global,
-    graph: &[List<u32>],
-) -> Result<List<usize>, NoMemory> {
+pub(crate) fn component_ranks(alloc: Global, graph: &[List<u32>]) -> Result<List<usize>, NoMemory> {
     let turned = reversed(alloc, graph)?;
     let mut order = post_order(alloc, graph)?;
     let mut ranks = List::new(alloc);

@@ -3,8 +3,8 @@
 
 mod defs;
 pub mod examples;
-pub mod laws;
 mod graph;
+pub mod laws;
 mod list;
 mod names;
 mod naming;

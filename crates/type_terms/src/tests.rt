@@ -236,7 +236,11 @@ fn lists_of_definitions(rt: HostRuntime) -> Result<(), Fail> {
         (Shape::ThroughTuples, 4096, None),
         (Shape::BackChain, 4096, None),
         (Shape::Cycle, 4096, Some(DefFault::NotContractive(0))),
-        (Shape::CycleAtLast, 4096, Some(DefFault::NotContractive(4095))),
+        (
+            Shape::CycleAtLast,
+            4096,
+            Some(DefFault::NotContractive(4095)),
+        ),
         (Shape::Undefined, 512, Some(DefFault::NoName(512))),
     ] {
         assert!(rt; fault_of(alloc, shape, count)? == fault);

@@ -1,5 +1,4 @@
-use Rattle.std.proofs.Common.{rules, arith, ℕ, ◌<◌, ◌≤◌, length, suc}
-use Rattle.type_terms.specs.Graphs.{FallsFrom}
+use Rattle.std.proofs.Common.{rules, arith, ◌<◌, length, suc}
 use Rattle.type_terms.proofs.PathLaws.{no-cycle, no-cycle-at-all}
 use Rattle.type_terms.proofs.paths.least_on_cycle.Goals as goal
 

@@ -1,4 +1,4 @@
-use Rattle.std.proofs.Common.{◌≡◌, subst, sym, List, rules}
+use Rattle.std.proofs.Common.{subst, sym, List, rules}
 use Rattle.std.specs.List.{Contains}
 use Rattle.type_terms.specs.declared.term.Term.{Term}
 use Rattle.type_terms.proofs.SimpleTerms.{Simple, simple-Or, simple-Tuple, simple-Name, simple-Fun}
