@@ -42,7 +42,7 @@ bare-cell defs s t = bare-step defs NoVariable (Cons s t) [] (operands-Cons s t)
 pub bare-head : (defs : List Def) → IsBarePart defs (Var 0) (Cons (Var 0) Nil) → ⊥
 bare-head defs b = bare-cell defs (Var 0) Nil (Var 0) b refl
 
-ends-open : IsOpenIn given_definitions 1 1
+pub ends-open : IsOpenIn given_definitions 1 1
 ends-open =
     let cells : List Term = Cons (Var 0) (Name 1 (Var 0 ∷ Var 1 ∷ [])) ∷ [] in
     open_in 1 1 ends_definition refl (bare-operand given_definitions (Var 1 ∷ cells) (Var 1) (contains-first (Var 1) cells))

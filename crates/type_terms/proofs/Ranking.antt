@@ -4,7 +4,7 @@ use Rattle.std.proofs.lemmas.Bool.{true≢false, false≢true, ltb-true, ltb-fal
 use Rattle.std.specs.Prelude.{Some, slice_get}
 use Rattle.type_terms.specs.declared.term.Def.{Def}
 use Rattle.type_terms.specs.declared.term.Term.{Term, Name}
-use Rattle.type_terms.specs.Definitions.{IsBarePart, IsOpenIn, open_in, Reaches, directly, by_way_of, AreDefinitions}
+use Rattle.type_terms.specs.Definitions.{IsBarePart, IsOpenIn, open_in, Reaches, directly, by_way_of, AreDefinitions, IsChain, IsChainAfter}
 use Rattle.type_terms.proofs.Ranks.{Ranked}
 use Rattle.type_terms.proofs.ReadingStability.{Stable}
 use Rattle.type_terms.proofs.PartLaws.{bare-into, bare-part, contains-at}
@@ -150,6 +150,17 @@ module _ (defs : List Def) (right : AreDefinitions defs) where
         let r : Reaches defs n m = directly n m def args e b in
         count-strictly-more (reach m) (reach n) (λ x q. reach-into n x (reach-inside m x q) (by_way_of n m x r (reach-out m x q))) m (not-itself m) (reach-into n m inside r) (length defs) inside
 
+    rank-falls : (n m : ℕ) → Reaches defs n m → m < length defs → rank m < rank n
+    unfolding rank
+    rank-falls n m r inside = count-strictly-more (reach m) (reach n) (λ x q. reach-into n x (reach-inside m x q) (by_way_of n m x r (reach-out m x q))) m (not-itself m) (reach-into n m inside r) (length defs) inside
+
+    chain-short : (n : ℕ) (ms : List ℕ) → IsChainAfter defs n ms → length ms ≤ rank n
+    chain-short n [] c = omega arith
+    chain-short n (m ∷ ms) c =
+        let fall : rank m < rank n = rank-falls n m c.0 c.1 in
+        let rest : length ms ≤ rank m = chain-short m ms c.2 in
+        omega arith
+
     rank-bounded : 0 < length defs → (n : ℕ) → rank n < length defs
     unfolding rank
     rank-bounded some n = go (nat_lt n (length defs)) refl
@@ -170,6 +181,18 @@ module _ (defs : List Def) (right : AreDefinitions defs) where
       bodies = λ n def e. bare-into defs (λ m. rank m < rank n) (IsOpenIn defs n) def.body (λ m args b. rank-less n m def args e b) (λ i b. open_in n i def e b);
       bounded = rank-bounded some;
     }
+
+  -- a chain is at most as long as the list
+  pub chain-ends : (ns : List ℕ) → IsChain defs ns → length ns ≤ length defs
+  chain-ends [] c = omega arith
+  chain-ends (n ∷ ns) c = go (nat_lt (length ns) (length defs)) refl
+    where
+      go : (b : Bool) → nat_lt (length ns) (length defs) ≡ b → length (n ∷ ns) ≤ length defs
+      go true e = let l : length ns < length defs = ltb-true (length ns) (length defs) e in omega arith
+      go false e =
+          let g : length defs ≤ length ns = ltb-false (length ns) (length defs) e in
+          let inside : n < length defs = c.0 in
+          absurd (no-missing-table (λ table. let short : length ns ≤ rank table n = chain-short table n ns c.1 in let bound : rank table n < length defs = rank-bounded table (omega arith) n in omega arith))
 
   -- it is not refuted that the definitions have ranks
   pub have-ranks : 0 < length defs → ((rank' : ℕ → ℕ) → Ranked defs rank' (IsOpenIn defs) → ⊥) → ⊥

@@ -73,3 +73,5 @@ pub replaced-Map : (f : Substitution) (fields : List Field) (rest_int rest_atom 
 replaced-Map f fields rest_int rest_atom =
     map-terms _ (replaced_fields f (hidden-the_row-Field-2 fields)) (replaced_rest f (back-Term-Map-1 rest_int)) (replaced_rest f (back-Term-Map-1 rest_atom))
     ∙ (λ j. Map ((fields-replaced f (hidden-the_row-Field-2 fields) ∙ ap (map (field_replaced f)) (items_hidden-the_row-Field-2 fields)) j) (rest-replaced f rest_int j) (rest-replaced f rest_atom j))
+
+pub ruleset replacement_laws = (replaced-Cons, replaced-Tuple, replaced-Map, replaced-Fun, replaced-Or, replaced-And, replaced-Not, replaced-Name)

@@ -23,6 +23,16 @@ pub data Reaches (defs : List Def) : ℕ → ℕ → Type 0 where
   directly : (n m : ℕ) (def : Def) (arguments : List Term) → slice_get defs n ≡ Some def → IsBarePart defs (Name m arguments) def.body → Reaches defs n m
   by_way_of : (n between m : ℕ) → Reaches defs n between → Reaches defs between m → Reaches defs n m
 
+-- definitions, each of which is reached from the one before; the first from n
+abbrev pub IsChainAfter : List Def → ℕ → List ℕ → Type 0
+IsChainAfter defs n [] = Unit {0}
+IsChainAfter defs n (m ∷ ms) = Reaches defs n m × (m < length defs) × IsChainAfter defs m ms
+
+-- definitions, each of which is reached from the one before
+abbrev pub IsChain : List Def → List ℕ → Type 0
+IsChain defs [] = Unit {0}
+IsChain defs (n ∷ ns) = (n < length defs) × IsChainAfter defs n ns
+
 -- no definition reaches itself
 abbrev pub IsContractive : List Def → Type 0
 IsContractive defs = (n : ℕ) → Reaches defs n n → ⊥

@@ -3,6 +3,13 @@ pub mod Parts
 pub mod Replacement
 pub mod Unfolding
 pub mod Definitions
+pub mod BareNumbers
+pub mod Openness
+pub mod Graphs
+pub mod Paths
+pub mod Undefined
+pub mod Refusals
 pub mod Signs
+pub mod SignTables
 pub mod Instances
 pub mod Reading

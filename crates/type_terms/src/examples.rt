@@ -3,8 +3,8 @@
 ghost use Rattle.std.specs.Prelude.{List, [], ◌∷◌, codes};
 ghost use Rattle.std.specs.Prelude.{None as Open};
 ghost use Rattle.type_terms.specs.declared.term.Def.{Def};
-ghost use Rattle.type_terms.specs.declared.term.Term.{Term, Any, Ints, AtomLit, Nil, Cons, Fun, AnyFun, Or, Not, Var, Name};
-ghost use Rattle.type_terms.specs.Definitions.{AreDefinitions, IsBarePart, IsContractive, given_definitions};
+ghost use Rattle.type_terms.specs.declared.term.Term.{Term, Any, Ints, AtomLit, Nil, Cons, Tuple, Fun, AnyFun, Or, Not, Var, Name};
+ghost use Rattle.type_terms.specs.Definitions.{AreDefinitions, IsBarePart, IsContractive, IsOpenIn, given_definitions};
 ghost use Rattle.type_terms.specs.Instances.{IsInstance, no_variables, variable_and};
 ghost use Rattle.type_terms.specs.Signs.{IsWellSigned};
 
@@ -20,6 +20,17 @@ pub fn contractive_definitions()
     ensures own_alternative { IsContractive (record { params = 0; body = Or (Name 0 [] ∷ AtomLit (codes "a") ∷ []) } ∷ []) → ⊥ }
     ensures open_argument { IsContractive (record { params = 1; body = Var 0 } ∷ record { params = 0; body = Name 0 (Name 1 [] ∷ []) } ∷ []) → ⊥ }
     ensures closed_argument { IsContractive (record { params = 1; body = Cons (Var 0) (Var 0) } ∷ record { params = 0; body = Name 0 (Name 1 [] ∷ []) } ∷ []) }
+{}
+
+/// `t = a | {a, t}` doesn't reach itself: in it t stands under a constructor.
+pub fn guarded_name()
+    ensures { IsContractive (record { params = 0; body = Or (AtomLit (codes "a") ∷ Tuple (AtomLit (codes "a") ∷ Name 0 [] ∷ []) ∷ []) } ∷ []) }
+{}
+
+/// `ends(A, B)` is open in B and not in A.
+pub fn open_parameters()
+    ensures second { IsOpenIn given_definitions 1 1 }
+    ensures first { IsOpenIn given_definitions 1 0 → ⊥ }
 {}
 
 /// An alternative is a bare part, and the head of a cell isn't. An argument is one where the name's

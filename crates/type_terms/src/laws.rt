@@ -1,11 +1,15 @@
 //! Laws of the definitions, each the contract of a function that does nothing.
 
+ghost use Rattle.std.specs.List.{Contains};
 ghost use Rattle.std.specs.Option.{option_map};
-ghost use Rattle.std.specs.Prelude.{◌≡◌, ◌↔◌, ◌<ℤ◌, ◌≤ℤ◌, ℕ, ℤ, List, Option, Some, false, true, length, map, slice_get};
-ghost use Rattle.type_terms.specs.Definitions.{AreDefinitions};
+ghost use Rattle.std.specs.Prelude.{◌≡◌, ◌↔◌, ◌<ℤ◌, ◌≤◌, ◌≤ℤ◌, ℕ, ℤ, Bool, List, Option, Some, cond, false, true, length, map, slice_get};
+ghost use Rattle.std.specs.Prelude.{None as Nothing, not as flipped};
+ghost use Rattle.type_terms.specs.Definitions.{AreDefinitions, IsChain, NamesAreDefined};
 ghost use Rattle.type_terms.specs.Keys.{Name as KeyName, key_lt, less_int, same_key, same_name};
 ghost use Rattle.type_terms.specs.Reading.{le_int};
 ghost use Rattle.type_terms.specs.Replacement.{Substitution, field_replaced, replaced, replaced_by};
+ghost use Rattle.type_terms.specs.Signs.{StandsUnder};
+ghost use Rattle.type_terms.specs.Undefined.{undefined_among};
 ghost use Rattle.type_terms.specs.Unfolding.{unfolded};
 ghost use Rattle.type_terms.specs.declared.term.Def.{Def};
 ghost use Rattle.type_terms.specs.declared.term.Field.{Field};
@@ -103,4 +107,26 @@ pub fn an_undefined_name_is_none()
     ensures { (defs : List Def) (n : ℕ) (arguments : List Term) →
         ((def : Def) → slice_get defs n ≡ Some def → def.params ≡ length arguments → ⊥) →
         unfolded defs (Name n arguments) ≡ None }
+{}
+
+/// Unfolding the names that stand under no constructor ends: where each definition of a chain is
+/// reached from the one before, the chain is at most as long as the list of definitions.
+pub fn unfolding_ends()
+    ensures { (defs : List Def) → AreDefinitions defs → (chain : List ℕ) → IsChain defs chain → length chain ≤ length defs }
+{}
+
+/// There is a first undefined name exactly where some name in a body isn't defined.
+pub fn undefined_names()
+    ensures { (defs : List Def) →
+        (undefined_among defs ≡ Nothing) ↔ ((def : Def) → Contains defs def → NamesAreDefined defs def.body) }
+{}
+
+/// Of a part of a part the negations add up, and what stands in a term stands under as many negations
+/// once the variables of both are replaced.
+pub fn signs_of_parts()
+    ensures part_of_part { (defs : List Def) (inner outer : Bool) (part middle whole : Term) →
+        StandsUnder defs inner part middle → StandsUnder defs outer middle whole →
+        StandsUnder defs (cond outer (flipped inner) inner) part whole }
+    ensures after_replacement { (f : Substitution) (defs : List Def) (odd : Bool) (part whole : Term) →
+        StandsUnder defs odd part whole → StandsUnder defs odd (replaced f part) (replaced f whole) }
 {}

@@ -1,6 +1,15 @@
-//! That copies succeed where there is memory. That a copy equals its source is proved.
+//! That copies, replacements and lists of definitions are made where there is memory. What they are is proved.
 
-use crate::{Arrow, Def, Field, FunSpec, Key, Kind, List, NoMemory, Plain, Term};
+ghost use Rattle.std.specs.List.{Contains};
+ghost use Rattle.std.specs.Prelude.{◌≡◌, [], ◌∷◌, IfOk, IsTrue};
+ghost use Rattle.type_terms.specs.Definitions.{FieldsAscend, VariablesBelow};
+ghost use Rattle.type_terms.specs.Refusals.{AreWellMade};
+ghost use Rattle.type_terms.specs.declared.term.Term.{Term};
+
+use crate::{
+    Arrow, Def, DefFault, Defs, Field, FunSpec, Key, Kind, List, NoMemory, Plain, Term, replace,
+    well_signed,
+};
 use sqlite_items::Boxed;
 use std::alloc::Global;
 use std::test::Fail;
@@ -9,7 +18,9 @@ fn boxed(alloc: Global, term: Term) -> Result<Boxed<Term>, NoMemory> {
     Ok(Boxed::new(alloc, term)?)
 }
 
-fn one(alloc: Global, term: Term) -> Result<List<Term>, NoMemory> {
+fn one(alloc: Global, term: Term) -> Result<List<Term>, NoMemory>
+    ensures { IfOk result (λ terms. terms ≡ term ∷ []) }
+{
     let mut terms = List::new(alloc);
     terms.push(term)?;
     Ok(terms)
@@ -93,5 +104,302 @@ fn copies_of_numbers(rt: HostRuntime) -> Result<(), Fail> {
     assert_eq!(rt; 7usize.copy(alloc)?, 7);
     assert_eq!(rt; 7i128.copy(alloc)?, 7);
     assert_eq!(rt; Some(7u8).copy(alloc)?, Some(7));
+    Ok(())
+}
+
+#[test]
+fn a_replacement(rt: HostRuntime) -> Result<(), Fail> {
+    let alloc = rt.alloc();
+    let by = one(alloc, Term::Nil)?;
+    let made = replace(alloc, &Term::Var(0), &by)?;
+    assert!(rt; matches!(&made, Term::Nil));
+    Ok(())
+}
+
+/// How the definitions of a list lead to each other.
+#[derive(Clone, Copy)]
+enum Shape {
+    /// Each is the next one or `a`, and the last one `[]`.
+    Chain,
+    /// Each is a tuple of the next one, and the last one of the first.
+    ThroughTuples,
+    /// Each is the one before or `[]`, and the first one a fun type.
+    BackChain,
+    /// Each is the next one, and the last one the first.
+    Cycle,
+    /// Each is the next one, and the last one itself.
+    CycleAtLast,
+    /// The last one has a name that isn't defined.
+    Undefined,
+}
+
+/// A name without arguments.
+fn name(alloc: Global, number: u32) -> Term {
+    Term::Name(number, List::new(alloc))
+}
+
+fn body(alloc: Global, shape: Shape, next: u32, count: u32) -> Result<Term, NoMemory> {
+    let is_last = next == count;
+    let around = if is_last { 0 } else { next };
+    match shape {
+        Shape::Chain => {
+            if is_last {
+                return Ok(Term::Nil);
+            }
+            let mut parts = one(alloc, name(alloc, next))?;
+            parts.push(Term::AtomLit(List::from_slice(alloc, b"a".as_slice())?))?;
+            Ok(Term::Or(parts))
+        }
+        Shape::BackChain => {
+            if next == 1 {
+                return Ok(Term::Fun(List::new(alloc), boxed(alloc, Term::Any)?));
+            }
+            let mut parts = one(alloc, name(alloc, next.wrapping_sub(2)))?;
+            parts.push(Term::Nil)?;
+            Ok(Term::Or(parts))
+        }
+        Shape::ThroughTuples => Ok(Term::Tuple(one(alloc, name(alloc, around))?)),
+        Shape::Cycle => Ok(name(alloc, around)),
+        Shape::CycleAtLast => Ok(name(alloc, next.min(count.saturating_sub(1)))),
+        Shape::Undefined => Ok(name(alloc, next)),
+    }
+}
+
+fn definitions(alloc: Global, shape: Shape, count: u32) -> Result<List<Def>, NoMemory> {
+    let mut list = List::new(alloc);
+    for number in 0..count {
+        let body = body(alloc, shape, number.wrapping_add(1), count)?;
+        list.push(Def { params: 0, body })?;
+    }
+    Ok(list)
+}
+
+/// Whether the term has no map terms and only variables below a count. Other kinds are not looked into.
+#[cycle(simple)]
+fn is_simple(term: &Term, count: u32) -> bool
+    ensures { IsTrue result → VariablesBelow count term.now × FieldsAscend term.now }
+{
+    match term {
+        Term::Any | Term::Nil | Term::AtomLit(_) => true,
+        Term::Var(number) => *number < count,
+        Term::Or(parts) => are_all_simple(parts.as_slice(), count),
+        Term::Tuple(parts) => are_all_simple(parts.as_slice(), count),
+        Term::Name(_, arguments) => are_all_simple(arguments.as_slice(), count),
+        Term::Fun(params, given) => {
+            are_all_simple(params.as_slice(), count) && is_simple(given.get(), count)
+        }
+        Term::Not(negated) => is_simple(negated.get(), count),
+        _ => false,
+    }
+}
+
+#[cycle(simple)]
+fn are_all_simple(terms: &[Term], count: u32) -> bool
+    ensures { IsTrue result → (t : Term) → Contains terms.now t → VariablesBelow count t × FieldsAscend t }
+{
+    for term in terms {
+        if !is_simple(term, count) {
+            return false;
+        }
+    }
+    true
+}
+
+fn are_simple(defs: &[Def]) -> bool
+    ensures { IsTrue result → AreWellMade defs.now }
+{
+    'bodies: for def in defs {
+        if !is_simple(&def.body, def.params) {
+            return false;
+        }
+    }
+    true
+}
+
+/// The definitions of a list, which are simple; `None` where they are refused or not simple.
+fn fault_of(alloc: Global, shape: Shape, count: u32) -> Result<Option<DefFault>, NoMemory> {
+    let list = definitions(alloc, shape, count)?;
+    if !are_simple(list.as_slice()) {
+        return Err(NoMemory);
+    }
+    match Defs::new(alloc, list) {
+        Ok(_) => Ok(None),
+        Err(fault) => Ok(Some(fault)),
+    }
+}
+
+#[test]
+fn lists_of_definitions(rt: HostRuntime) -> Result<(), Fail> {
+    let alloc = rt.alloc();
+    for (shape, count, fault) in [
+        (Shape::Chain, 4096, None),
+        (Shape::ThroughTuples, 4096, None),
+        (Shape::BackChain, 4096, None),
+        (Shape::Cycle, 4096, Some(DefFault::NotContractive(0))),
+        (
+            Shape::CycleAtLast,
+            4096,
+            Some(DefFault::NotContractive(4095)),
+        ),
+        (Shape::Undefined, 512, Some(DefFault::NoName(512))),
+    ] {
+        assert!(rt; fault_of(alloc, shape, count)? == fault);
+    }
+    Ok(())
+}
+
+fn two(alloc: Global, first: Term, second: Term) -> Result<List<Def>, NoMemory> {
+    let mut list = List::new(alloc);
+    list.push(Def {
+        params: 1,
+        body: first,
+    })?;
+    list.push(Def {
+        params: 0,
+        body: second,
+    })?;
+    Ok(list)
+}
+
+/// Adds two definitions to two of a chain.
+fn added(alloc: Global, first: Term, second: Term) -> Result<(Defs, Option<DefFault>), DefFault> {
+    let whole = definitions(alloc, Shape::Chain, 2)?;
+    let more = two(alloc, first, second)?;
+    if !are_simple(whole.as_slice()) || !are_simple(more.as_slice()) {
+        return Err(DefFault::NoMemory);
+    }
+    let mut defs = Defs::new(alloc, whole)?;
+    match defs.add(more) {
+        Ok(()) => Ok((defs, None)),
+        Err(fault) => Ok((defs, Some(fault))),
+    }
+}
+
+#[test]
+fn added_definitions(rt: HostRuntime) -> Result<(), Fail> {
+    let alloc = rt.alloc();
+    let tuple = Term::Tuple(one(alloc, Term::Name(0, List::new(alloc)))?);
+    let name = Term::Name(0, List::new(alloc));
+    let Ok((defs, fault)) = added(alloc, tuple, name) else {
+        assert!(rt; false, "refused");
+        return Ok(());
+    };
+    assert!(rt; fault.is_none());
+    assert!(rt; defs.get(3).is_some());
+    assert!(rt; defs.get(4).is_none());
+    let Ok((defs, fault)) = added(alloc, Term::Nil, Term::Name(2, List::new(alloc))) else {
+        assert!(rt; false, "refused");
+        return Ok(());
+    };
+    assert!(rt; fault == Some(DefFault::NoName(2)));
+    assert!(rt; defs.get(1).is_some());
+    assert!(rt; defs.get(2).is_none());
+    Ok(())
+}
+
+fn not(alloc: Global, term: Term) -> Result<Term, NoMemory> {
+    Ok(Term::Not(boxed(alloc, term)?))
+}
+
+/// A name with one argument.
+fn name_of(alloc: Global, number: u32, argument: Term) -> Result<Term, NoMemory> {
+    Ok(Term::Name(number, one(alloc, argument)?))
+}
+
+/// `[] | {A, l(A)}`
+fn list_body(alloc: Global) -> Result<Term, NoMemory> {
+    let mut cell = one(alloc, Term::Var(0))?;
+    cell.push(name_of(alloc, 0, Term::Var(0))?)?;
+    let mut parts = one(alloc, Term::Nil)?;
+    parts.push(Term::Tuple(cell))?;
+    Ok(Term::Or(parts))
+}
+
+/// `{A, not A}`
+fn pair_body(alloc: Global) -> Result<Term, NoMemory> {
+    let mut pair = one(alloc, Term::Var(0))?;
+    pair.push(not(alloc, Term::Var(0))?)?;
+    Ok(Term::Tuple(pair))
+}
+
+fn add_def(list: &mut List<Def>, params: u32, body: Term) -> Result<(), NoMemory> {
+    list.push(Def { params, body })?;
+    Ok(())
+}
+
+/// `l(A) = [] | {A, l(A)}`, `n(A) = not A`, `p(A) = {A, not A}`, `d(A) = []` and `f = fun(() -> term())`.
+fn signed_definitions(alloc: Global) -> Result<List<Def>, NoMemory> {
+    let mut list = List::new(alloc);
+    add_def(&mut list, 1, list_body(alloc)?)?;
+    add_def(&mut list, 1, not(alloc, Term::Var(0))?)?;
+    add_def(&mut list, 1, pair_body(alloc)?)?;
+    add_def(&mut list, 1, Term::Nil)?;
+    let fun = Term::Fun(List::new(alloc), boxed(alloc, Term::Any)?);
+    add_def(&mut list, 0, fun)?;
+    Ok(list)
+}
+
+fn judge(defs: &Defs, term: Term, answers: &mut List<bool>) -> Result<(), NoMemory> {
+    answers.push(well_signed(&term, defs))?;
+    Ok(())
+}
+
+/// Judges `l(A)`, `not A`, `n(A)`, `n(n(A))`, `p([])`, `p(A)` and `d(not A)`.
+fn judge_variables(alloc: Global, defs: &Defs, found: &mut List<bool>) -> Result<(), NoMemory> {
+    judge(defs, name_of(alloc, 0, Term::Var(0))?, found)?;
+    judge(defs, not(alloc, Term::Var(0))?, found)?;
+    judge(defs, name_of(alloc, 1, Term::Var(0))?, found)?;
+    let negated = name_of(alloc, 1, Term::Var(0))?;
+    judge(defs, name_of(alloc, 1, negated)?, found)?;
+    judge(defs, name_of(alloc, 2, Term::Nil)?, found)?;
+    judge(defs, name_of(alloc, 2, Term::Var(0))?, found)?;
+    let unused = not(alloc, Term::Var(0))?;
+    judge(defs, name_of(alloc, 3, unused)?, found)
+}
+
+/// Judges `f`, `not f`, `n(f)`, `not not f` and `not fun()`.
+fn judge_funs(alloc: Global, defs: &Defs, found: &mut List<bool>) -> Result<(), NoMemory> {
+    judge(defs, name(alloc, 4), found)?;
+    judge(defs, not(alloc, name(alloc, 4))?, found)?;
+    judge(defs, name_of(alloc, 1, name(alloc, 4))?, found)?;
+    let negated = not(alloc, name(alloc, 4))?;
+    judge(defs, not(alloc, negated)?, found)?;
+    judge(defs, not(alloc, Term::AnyFun(None))?, found)
+}
+
+/// Judges `l()`, a name without a definition, and one in an argument that its definition doesn't use.
+fn judge_names(alloc: Global, defs: &Defs, found: &mut List<bool>) -> Result<(), NoMemory> {
+    judge(defs, name(alloc, 0), found)?;
+    judge(defs, name(alloc, 5), found)?;
+    judge(defs, name_of(alloc, 3, name(alloc, 5))?, found)
+}
+
+fn judged(alloc: Global) -> Result<List<bool>, DefFault> {
+    let list = signed_definitions(alloc)?;
+    if !are_simple(list.as_slice()) {
+        return Err(DefFault::NoMemory);
+    }
+    let defs = Defs::new(alloc, list)?;
+    let mut found = List::new(alloc);
+    judge_variables(alloc, &defs, &mut found)?;
+    judge_funs(alloc, &defs, &mut found)?;
+    judge_names(alloc, &defs, &mut found)?;
+    Ok(found)
+}
+
+/// What `well_signed` answers; like `get` above, it is given nothing to take memory from.
+#[test]
+fn signs(rt: HostRuntime) -> Result<(), Fail> {
+    let Ok(found) = judged(rt.alloc()) else {
+        assert!(rt; false, "refused");
+        return Ok(());
+    };
+    let variables = [true, false, false, true, true, false, true];
+    let funs = [true, false, false, true, true];
+    let names = [false, false, false];
+    assert_eq!(rt; found.len(), 15);
+    assert_eq!(rt; &found.as_slice()[..7], variables.as_slice());
+    assert_eq!(rt; &found.as_slice()[7..12], funs.as_slice());
+    assert_eq!(rt; &found.as_slice()[12..], names.as_slice());
     Ok(())
 }

@@ -1,0 +1,6 @@
+use Rattle.std.proofs.Common.{◌∙◌, subst, sym}
+use Rattle.type_terms.specs.Refusals.{AreWellMade}
+use Rattle.type_terms.proofs.defs.push_and_check.Goals as goal
+
+pub check_definitions-requires : goal.check_definitions-requires
+check_definitions-requires c = subst AreWellMade (sym (c.as_slice-whole.ensures ∙ c.in_ok-push_turned.ensures.all)) c.requires
