@@ -1,0 +1,9 @@
+pub mod SpellingLaws
+pub mod NestingLaws
+pub mod DeeperLaws
+pub mod GuardLaws
+pub mod Layers
+pub mod TreeExamples
+pub mod DepthLaws
+pub mod PlaceLaws
+pub mod MarkLaws

@@ -1,0 +1,44 @@
+use Rattle.erl_grammar.proofs.MarkLaws.{pattern_marks, key_marks, entry_marks, field_pattern_marks, expr_marks, item_marks, qualifier_marks, assoc_marks, field_marks, guard_marks, case_clause_marks, if_clause_marks, fun_clause_marks, catch_marks}
+use Rattle.erl_grammar.proofs.laws.each_node_has_a_mark_for_each_of_its_tokens.Goals as goal
+
+pub returns-clause-pattern : goal.returns-clause-pattern
+returns-clause-pattern c p h = pattern_marks h
+
+pub returns-clause-key : goal.returns-clause-key
+returns-clause-key c k h = key_marks h
+
+pub returns-clause-entry : goal.returns-clause-entry
+returns-clause-entry c n h = entry_marks h
+
+pub returns-clause-field_of_pattern : goal.returns-clause-field_of_pattern
+returns-clause-field_of_pattern c f h = field_pattern_marks h
+
+pub returns-clause-expr : goal.returns-clause-expr
+returns-clause-expr c least e h = expr_marks h
+
+pub returns-clause-item : goal.returns-clause-item
+returns-clause-item c i h = item_marks h
+
+pub returns-clause-qualifier : goal.returns-clause-qualifier
+returns-clause-qualifier c q h = qualifier_marks h
+
+pub returns-clause-association : goal.returns-clause-association
+returns-clause-association c x a h = assoc_marks h
+
+pub returns-clause-field : goal.returns-clause-field
+returns-clause-field c f h = field_marks h
+
+pub returns-clause-guard : goal.returns-clause-guard
+returns-clause-guard c g h = guard_marks h
+
+pub returns-clause-case_clause : goal.returns-clause-case_clause
+returns-clause-case_clause c d h = case_clause_marks h
+
+pub returns-clause-if_clause : goal.returns-clause-if_clause
+returns-clause-if_clause c d h = if_clause_marks h
+
+pub returns-clause-fun_clause : goal.returns-clause-fun_clause
+returns-clause-fun_clause c d h = fun_clause_marks h
+
+pub returns-clause-catch_clause : goal.returns-clause-catch_clause
+returns-clause-catch_clause c d h = catch_marks h
