@@ -1,0 +1,13 @@
+use Rattle.std.proofs.Common.{◌≡◌, ◌+◌, ◌≤◌, length}
+use Rattle.expr_parser.specs.Scan.{leads, leads_to}
+use Rattle.expr_parser.proofs.scan.leads_to.Given as goal
+
+-- going on gives what scanning from the front gives
+abbrev pub invariant-scan : goal.invariant-scan
+invariant-scan l = record {
+  going : leads l.ending l.behind l.depth l.rest ≡ leads_to l.fn.ending l.fn.tokens;
+  low : l.depth + length l.rest ≤ length l.fn.tokens;
+}
+
+abbrev pub decreases-scan : goal.decreases-scan
+decreases-scan l = length l.rest
