@@ -30,3 +30,6 @@ made-definitions defs made e none = record {
   own_variables = λ def k. (made def k).0;
   fields_ascend = λ def k. (made def k).1;
 }
+
+pub made-of-definitions : (defs : List Def) → AreDefinitions defs → AreWellMade defs
+made-of-definitions defs are = λ def k. (are.own_variables def k, are.fields_ascend def k)

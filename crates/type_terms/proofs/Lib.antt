@@ -20,6 +20,7 @@ pub mod OpennessLaws
 pub mod MarkLaws
 pub mod PathLaws
 pub mod UndefinedMeaning
+pub mod FirstUndefined
 pub mod DefinitionLaws
 pub mod MoreExamples
 pub mod SimpleTerms
@@ -29,4 +30,7 @@ pub mod SignListLaws
 pub mod SignViews
 pub mod SignParts
 pub mod SignMeaning
+pub mod SignAdding
 pub mod SignTableSteps
+pub mod SignExamples
+pub mod MapExamples

@@ -10,7 +10,7 @@ use Rattle.type_terms.specs.declared.term.Term.TheViews as Views
 use denote.Hole.Carrier.{hidden}
 use Rattle.type_terms.specs.Parts.{layer_positive_children, positive_children, IsPart}
 use Rattle.type_terms.specs.Replacement.{replaced_by}
-use Rattle.type_terms.specs.Definitions.{IsBarePart, itself, in_operand, in_argument, IsOpenIn, open_in, directly, IsContractive, list_definition, ends_definition, given_definitions}
+use Rattle.type_terms.specs.Definitions.{IsBarePart, itself, in_operand, in_argument, IsOpenIn, open_in, Reaches, directly, IsContractive, list_definition, ends_definition, given_definitions}
 use Rattle.type_terms.specs.Instances.{IsInstance, no_variables, variable_and}
 use Rattle.type_terms.specs.Signs.{StandsUnder, itself as stands_itself, in_child, in_not, in_body, IsWellSigned}
 use Rattle.type_terms.proofs.Contained.{contains-none, contains-cases, contains-first}
@@ -30,8 +30,11 @@ bare-alternative defs = bare-operand defs (Nil ∷ Var 0 ∷ []) (Var 0) (contai
 abbrev own_alternative : Def
 own_alternative = record { params = 0; body = Or (Name 0 [] ∷ AtomLit (codes "a") ∷ []) }
 
+pub alternative-reaches : Reaches (record { params = 0; body = Or (Name 0 [] ∷ AtomLit (codes "a") ∷ []) } ∷ []) 0 0
+alternative-reaches = directly 0 0 own_alternative [] refl (bare-operand (own_alternative ∷ []) (Name 0 [] ∷ AtomLit (codes "a") ∷ []) (Name 0 []) (contains-first (Name 0 []) (AtomLit (codes "a") ∷ [])))
+
 pub own-alternative : IsContractive (record { params = 0; body = Or (Name 0 [] ∷ AtomLit (codes "a") ∷ []) } ∷ []) → ⊥
-own-alternative h = h 0 (directly 0 0 own_alternative [] refl (bare-operand (own_alternative ∷ []) (Name 0 [] ∷ AtomLit (codes "a") ∷ []) (Name 0 []) (contains-first (Name 0 []) (AtomLit (codes "a") ∷ []))))
+own-alternative h = h 0 alternative-reaches
 
 abbrev NoVariable : Term → Type 0
 NoVariable p = kind_number p ≡ 15 → ⊥

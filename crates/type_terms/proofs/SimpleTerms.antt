@@ -1,15 +1,16 @@
--- Terms without map terms, over so many variables.
-use Rattle.std.proofs.Common.{◌≡◌, refl, sym, ◌∙◌, ap, subst, ℕ, ◌+◌, ◌<◌, List, [], ◌∷◌, ◌++◌, length, get_or, true, ⊎_elim, arith}
-use Rattle.std.specs.Prelude.{Option}
+-- Terms over so many variables, in which the keys of map terms ascend.
+use Rattle.std.proofs.Common.{◌≡◌, refl, sym, ◌∙◌, ap, subst, ℕ, ◌+◌, ◌<◌, ◌≤◌, List, [], ◌∷◌, ◌++◌, length, get_or, true, ⊎_elim, arith}
+use Rattle.std.specs.Prelude.{Option, Some, None as Nothing}
 use Rattle.std.specs.List.{Contains}
 use Rattle.std.proofs.lemmas.List.{get_or_default}
 use Rattle.std.proofs.lemmas.List.Elements.{Contains-append_cases}
 use Rattle.type_terms.specs.declared.term.Def.{Def}
 use Rattle.type_terms.specs.declared.term.Field.{Field}
-use Rattle.type_terms.specs.declared.term.Term.{Term, Any, Nil, AtomLit, Tuple, Map, Fun, Or, Not, Var, Name}
+use Rattle.type_terms.specs.declared.term.Term.{Term, out-Term, Any, Nil, AtomLit, Tuple, Map, Fun, Or, Not, Var, Name}
+use Rattle.type_terms.specs.declared.term.Term.TheOpen as F
 use Rattle.type_terms.specs.declared.term.Term.TheViews as Views
 use Rattle.type_terms.specs.Keys.{ascending}
-use Rattle.type_terms.specs.Parts.{layer_children, children, field_keys, IsPart}
+use Rattle.type_terms.specs.Parts.{layer_children, children, field_keys, field_terms, rest_terms, IsPart}
 use Rattle.type_terms.specs.Definitions.{FieldsAscend, VariablesBelow}
 use Rattle.type_terms.specs.Refusals.{AreWellMade}
 use Rattle.type_terms.proofs.Contained.{contains-none}
@@ -64,6 +65,40 @@ simple-Not n t h = node-simple n (Not t) (t ∷ []) (children-Not t) (λ e. omeg
 
 pub simple-Fun : (n : ℕ) (ts : List Term) (t : Term) → ((c : Term) → Contains ts c → Simple n c) → Simple n t → Simple n (Fun ts t)
 simple-Fun n ts t hs h = node-simple n (Fun ts t) (ts ++ t ∷ []) (ap layer_children (Views.outs-Fun ts t)) (λ e. omega arith) (λ e. omega arith) (λ c k. ⊎_elim (hs c) (each-of-one (Simple n) t h c) (Contains-append_cases ts (t ∷ []) c k))
+
+-- the fields of a map term
+abbrev layer_fields : F.Term-F Term Field → List Field
+layer_fields (F.Map fields rest_int rest_atom) = fields
+layer_fields _ = []
+
+abbrev fields_of : Term → List Field
+fields_of t = layer_fields (out-Term t)
+
+fields-Map : (fields : List Field) (rest_int rest_atom : Option Term) → fields_of (Map fields rest_int rest_atom) ≡ fields
+fields-Map fields rest_int rest_atom = ap layer_fields (Views.outs-Map fields rest_int rest_atom)
+
+pub map-fields : (fs gs : List Field) (r q r' q' : Option Term) → Map fs r q ≡ Map gs r' q' → fs ≡ gs
+map-fields fs gs r q r' q' e = sym (fields-Map fs r q) ∙ (ap fields_of e ∙ fields-Map gs r' q')
+
+one-item : (xs : List Field) (f : Field) → 1 ≤ length xs → length xs < 2 → f ≡ get_or xs 0 f → xs ≡ f ∷ []
+one-item [] f l m e = absurd (omega arith)
+one-item (x ∷ []) f l m e = λ i. sym e i ∷ []
+one-item (x ∷ y ∷ xs) f l m e = absurd (omega arith)
+
+pub simple-Map : (n : ℕ) (fs : List Field) (rest_int rest_atom : Option Term) → ascending (field_keys fs) ≡ true → ((c : Term) → Contains (field_terms fs) c → Simple n c) → ((c : Term) → Contains (rest_terms rest_int) c → Simple n c) → ((c : Term) → Contains (rest_terms rest_atom) c → Simple n c) → Simple n (Map fs rest_int rest_atom)
+simple-Map n fs rest_int rest_atom ascends in_fields in_int in_atom =
+    of-parts n (Map fs rest_int rest_atom) (field_terms fs ++ (rest_terms rest_int ++ rest_terms rest_atom)) (ap layer_children (Views.outs-Map fs rest_int rest_atom))
+    ((λ i e. let f : 9 ≡ 15 = ap kind_number e in absurd (omega arith)), (λ fields r q e. subst (λ (gs : List Field). ascending (field_keys gs) ≡ true) (map-fields fs fields rest_int rest_atom r q e) ascends))
+    (λ c k. ⊎_elim (in_fields c) (λ k'. ⊎_elim (in_int c) (in_atom c) (Contains-append_cases (rest_terms rest_int) (rest_terms rest_atom) c k')) (Contains-append_cases (field_terms fs) (rest_terms rest_int ++ rest_terms rest_atom) c k))
+
+pub simple-field : (n : ℕ) (xs : List Field) (f : Field) → 1 ≤ length xs → length xs < 2 → f ≡ get_or xs 0 f → Simple n f.term → (ascending (field_keys xs) ≡ true) × ((c : Term) → Contains (field_terms xs) c → Simple n c)
+simple-field n xs f l m e s = subst (λ (ys : List Field). (ascending (field_keys ys) ≡ true) × ((c : Term) → Contains (field_terms ys) c → Simple n c)) (sym (one-item xs f l m e)) (refl, each-of-one (Simple n) f.term s)
+
+pub simple-rest : (n : ℕ) (rest : Option Term) (t : Term) → rest ≡ Some t → Simple n t → (c : Term) → Contains (rest_terms rest) c → Simple n c
+simple-rest n rest t e s = subst (λ (r : Option Term). (c : Term) → Contains (rest_terms r) c → Simple n c) (sym e) (each-of-one (Simple n) t s)
+
+pub simple-no_rest : (n : ℕ) (rest : Option Term) → rest ≡ Nothing → (c : Term) → Contains (rest_terms rest) c → Simple n c
+simple-no_rest n rest e = subst (λ (r : Option Term). (c : Term) → Contains (rest_terms r) c → Simple n c) (sym e) (λ c k. absurd (contains-none c k))
 
 pub variable-below : VariablesBelow 1 (Var 0)
 variable-below i k = each-part (λ p. (j : ℕ) → p ≡ Var j → j < 1) (Var 0) [] (children-Var 0) (λ j e. let z : 0 ≡ j = var-number 0 j e in omega arith) (λ c q. absurd (contains-none c q)) (Var i) k i refl

@@ -24,12 +24,15 @@ self = record { params = 0; body = Name 0 [] } ∷ []
 pub own-name : IsContractive (record { params = 0; body = Name 0 [] } ∷ []) → ⊥
 own-name h = h 0 (directly 0 0 (record { params = 0; body = Name 0 [] }) [] refl (itself (Name 0 [])))
 
-abbrev open_defs : List Def
+abbrev pub open_defs : List Def
 open_defs = record { params = 1; body = Var 0 } ∷ record { params = 0; body = Name 0 (Name 1 [] ∷ []) } ∷ []
 
+pub reaches-itself : Reaches open_defs 1 1
+reaches-itself = directly 1 1 (record { params = 0; body = Name 0 (Name 1 [] ∷ []) }) [] refl
+    (in_argument (Name 1 []) (Name 1 []) (Name 0 (Name 1 [] ∷ [])) 0 0 (Name 1 [] ∷ []) refl refl (open_in 0 0 (record { params = 1; body = Var 0 }) refl (itself (Var 0))) (itself (Name 1 [])))
+
 pub open-argument : IsContractive open_defs → ⊥
-open-argument h = h 1 (directly 1 1 (record { params = 0; body = Name 0 (Name 1 [] ∷ []) }) [] refl
-    (in_argument (Name 1 []) (Name 1 []) (Name 0 (Name 1 [] ∷ [])) 0 0 (Name 1 [] ∷ []) refl refl (open_in 0 0 (record { params = 1; body = Var 0 }) refl (itself (Var 0))) (itself (Name 1 []))))
+open-argument h = h 1 reaches-itself
 
 abbrev closed_defs : List Def
 closed_defs = record { params = 1; body = Cons (Var 0) (Var 0) } ∷ record { params = 0; body = Name 0 (Name 1 [] ∷ []) } ∷ []
@@ -95,26 +98,26 @@ pub negated-fun : IsWellSigned [] (Not (Fun [] Any)) → ⊥
 negated-fun h = h.no_odd_fun [] Any (in_not false (Fun [] Any) (Fun [] Any) (Not (Fun [] Any)) refl (stands_itself (Fun [] Any)))
 
 -- what is neither a fun type nor a variable, or stands under an even number of negations
-abbrev Kept : Bool → Term → Type 0
+abbrev pub Kept : Bool → Term → Type 0
 Kept odd p = odd ≡ true → (kind_number p ≡ 10) ⊎ (kind_number p ≡ 15) → ⊥
 
-kept-even : (p : Term) → Kept false p
+pub kept-even : (p : Term) → Kept false p
 kept-even p e = absurd (false≢true e)
 
-no-names : (defs : List Def) (t : Term) → ((p : Term) → IsPart p t → kind_number p ≡ 16 → ⊥) → NamesAreDefined defs t
+pub no-names : (defs : List Def) (t : Term) → ((p : Term) → IsPart p t → kind_number p ≡ 16 → ⊥) → NamesAreDefined defs t
 no-names defs t h n args part = absurd (h (Name n args) part refl)
 
-well-signed : (defs : List Def) (t : Term) → NamesAreDefined defs t → ((odd : Bool) (p : Term) → StandsUnder defs odd p t → Kept odd p) → IsWellSigned defs t
+pub well-signed : (defs : List Def) (t : Term) → NamesAreDefined defs t → ((odd : Bool) (p : Term) → StandsUnder defs odd p t → Kept odd p) → IsWellSigned defs t
 well-signed defs t names kept = record {
   names_defined = names;
   no_odd_fun = λ ss r s. kept true (Fun ss r) s refl (inl refl);
   no_odd_variable = λ a s. kept true (Var a) s refl (inr refl);
 }
 
-abbrev NotName : Term → Type 0
+abbrev pub NotName : Term → Type 0
 NotName p = kind_number p ≡ 16 → ⊥
 
-children-Any : children Any ≡ []
+pub children-Any : children Any ≡ []
 children-Any = ap layer_children Views.outs-Any
 
 children-Fun : children (Fun [] Any) ≡ Any ∷ []
@@ -123,25 +126,25 @@ children-Fun = ap layer_children (Views.outs-Fun [] Any)
 children-AnyFun : (o : Option ℕ) → children (AnyFun o) ≡ []
 children-AnyFun o = ap layer_children (Views.outs-AnyFun o)
 
-positive_children-Any : positive_children Any ≡ []
+pub positive_children-Any : positive_children Any ≡ []
 positive_children-Any = ap layer_positive_children Views.outs-Any
 
-positive_children-Fun : positive_children (Fun [] Any) ≡ Any ∷ []
+pub positive_children-Fun : positive_children (Fun [] Any) ≡ Any ∷ []
 positive_children-Fun = ap layer_positive_children (Views.outs-Fun [] Any)
 
 positive_children-AnyFun : (o : Option ℕ) → positive_children (AnyFun o) ≡ []
 positive_children-AnyFun o = ap layer_positive_children (Views.outs-AnyFun o)
 
-abbrev NoNameIn : Term → Type 0
+abbrev pub NoNameIn : Term → Type 0
 NoNameIn t = (p : Term) → IsPart p t → kind_number p ≡ 16 → ⊥
 
-no-name-leaf : (t : Term) → children t ≡ [] → (kind_number t ≡ 16 → ⊥) → NoNameIn t
+pub no-name-leaf : (t : Term) → children t ≡ [] → (kind_number t ≡ 16 → ⊥) → NoNameIn t
 no-name-leaf t e h = each-part NotName t [] e h (λ c k. absurd (contains-none c k))
 
 no-name-Not : (t : Term) → NoNameIn t → NoNameIn (Not t)
 no-name-Not t h = each-part NotName (Not t) (t ∷ []) (children-Not t) (λ e. omega arith) (each-of-one NoNameIn t h)
 
-no-name-Fun : NoNameIn (Fun [] Any)
+pub no-name-Fun : NoNameIn (Fun [] Any)
 no-name-Fun = each-part NotName (Fun [] Any) (Any ∷ []) children-Fun (λ e. omega arith) (each-of-one NoNameIn Any (no-name-leaf Any children-Any (λ e. omega arith)))
 
 pub fun-negated-twice : IsWellSigned [] (Not (Not (Fun [] Any)))

@@ -94,7 +94,7 @@ module _ (defs : List Def) where
       go Nothing p q = absurd (cc)
       go (Some body) p q = let r : (d : Def) × (slice_get defs n ≡ Some d) × (d.body ≡ body) × (count ≡ d.params) = body-eq (slice_get defs n) count body p in (r.0, r.1, sym r.3)
 
-  there-body : (n count : ℕ) (def : Def) → slice_get defs n ≡ Some def → def.params ≡ count → undefined_name defs n count ≡ Nothing
+  pub there-body : (n count : ℕ) (def : Def) → slice_get defs n ≡ Some def → def.params ≡ count → undefined_name defs n count ≡ Nothing
   there-body n count def e q = ap (λ o. without_body (body_of o count) n) e ∙ go (nat_eq def.params count) (eq-eqb def.params count q)
     where
       go : (b : Bool) → b ≡ true → without_body (if b then Some def.body else Nothing) n ≡ Nothing

@@ -8,7 +8,7 @@ use Rattle.type_terms.specs.Keys.{ascending}
 use Rattle.type_terms.specs.Parts.{field_keys, operands, IsPart}
 
 mutual
-  -- the first term stands in the second under no constructor, be it in an argument of a name that its definition leaves open
+  -- the first term stands in the second under no constructor; or so in an argument of such a name, where the name's definition is open in that parameter
   pub data IsBarePart (defs : List Def) : Term → Term → Type 0 where
     itself : (t : Term) → IsBarePart defs t t
     in_operand : (part operand whole : Term) → Contains (operands whole) operand → IsBarePart defs part operand → IsBarePart defs part whole
@@ -49,7 +49,7 @@ VariablesBelow count t = (i : ℕ) → IsPart (Var i) t → i < count
 abbrev pub FieldsAscend : Term → Type 0
 FieldsAscend t = (fields : List Field) (rest_int rest_atom : Option Term) → IsPart (Map fields rest_int rest_atom) t → ascending (field_keys fields) ≡ true
 
--- a list of definitions: contractive, each name defined; and, as of every definition and every map term, each body over its own parameters, and the keys of fields ascend
+-- what a list of definitions has to be: none reaches itself, and each name in a body has a definition with that number of parameters. The other two hold of every definition and of every map term: a body has only the variables below the number of its parameters, and the keys of a map term's fields ascend
 pub record AreDefinitions (defs : List Def) : Type 0 where
   pub contractive : IsContractive defs
   pub names_defined : (def : Def) → Contains defs def → NamesAreDefined defs def.body

@@ -1,5 +1,5 @@
 -- Under how many negations fun types and variables stand in a term, where a table says how they stand in the bodies of definitions.
-use Rattle.std.specs.Prelude.{◌≡◌, ◌⊎◌, ℕ, suc, ◌+◌, List, [], ◌∷◌, length, get_or, replicate, slice_get, Option, Some, None as Nothing, Bool, true, false, cond, ◌&&◌, ◌||◌, nat_eq}
+use Rattle.std.specs.Prelude.{◌≡◌, ◌⊎◌, ℕ, suc, List, [], ◌∷◌, length, get_or, slice_get, Option, Some, None as Nothing, Bool, true, false, cond, ◌&&◌, ◌||◌, nat_eq}
 use Rattle.type_terms.specs.declared.sign_search.Signs.{Signs}
 use Rattle.type_terms.specs.declared.sign_search.DefSigns.{DefSigns}
 use Rattle.type_terms.specs.declared.sign_search.Sought.{Sought}
@@ -135,32 +135,15 @@ HasRows defs table = (n : ℕ) (def : Def) → slice_get defs n ≡ Some def →
 abbrev pub IsSignTable : List Def → List DefSigns → Type 0
 IsSignTable defs table = SignsStand defs table × HasRows defs table
 
--- a row for each definition, with a place for each parameter
+-- a row for each definition, and what it says stands in the body
 pub record IsTableOf (defs : List Def) (table : List DefSigns) : Type 0 where
   pub rows : length table ≡ length defs
-  pub places : (n : ℕ) (def : Def) (row : DefSigns) → slice_get defs n ≡ Some def → slice_get table n ≡ Some row → length row.parameters ≡ def.params
   pub stand : SignsStand defs table
 
--- how many signs something does not have
-abbrev pub lacking : Signs → ℕ
-lacking a = cond a.even 0 1 + cond a.odd 0 1
-
-abbrev pub all_lacking : List Signs → ℕ
-all_lacking [] = 0
-all_lacking (a ∷ more) = lacking a + all_lacking more
-
-abbrev pub row_lacking : DefSigns → ℕ
-row_lacking row = lacking row.funs + all_lacking row.parameters
-
--- how many signs a table does not have
-abbrev pub table_lacking : List DefSigns → ℕ
-table_lacking [] = 0
-table_lacking (row ∷ rows) = row_lacking row + table_lacking rows
-
--- one where there is something new
-abbrev pub one_if : Bool → ℕ
-one_if new = cond new 1 0
-
 -- the row of a definition of which nothing is known
-abbrev pub empty_signs : Def → DefSigns
-empty_signs def = record { funs = no_signs; parameters = replicate def.params no_signs }
+abbrev pub empty_row : DefSigns
+empty_row = record { funs = no_signs; parameters = [] }
+
+-- to each variable's signs in a list those that f gives are added, as they stand under the signs of what is around
+abbrev pub AddsSigns : Signs → (ℕ → Signs) → List Signs → List Signs → Type 0
+AddsSigns around f old new = (i : ℕ) → get_or new i no_signs ≡ either (get_or old i no_signs) (through around (f i))

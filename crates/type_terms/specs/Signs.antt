@@ -1,4 +1,4 @@
--- When a type term is well signed: no fun type and no variable stands under an odd number of negations.
+-- When a type term is well signed: each name in it is defined, and no `Fun` and no variable stands under an odd number of negations, at any depth and through names.
 use Rattle.std.specs.Prelude.{◌≡◌, ℕ, List, slice_get, Some, Bool, true, false, not}
 use Rattle.std.specs.List.{Contains}
 use Rattle.type_terms.specs.declared.term.Def.{Def}

@@ -1,4 +1,4 @@
--- The first name, in the order of a text, that has no definition with its number of arguments.
+-- The first name that has no definition with its number of arguments: in the order of the list, and within a body in the order of its parts.
 use Rattle.std.specs.Prelude.{ℕ, List, [], ◌∷◌, length, slice_get, Option, Some, None as Nothing}
 use Rattle.type_terms.specs.declared.term.Def.{Def}
 use Rattle.type_terms.specs.declared.term.Field.{Field}
@@ -30,7 +30,7 @@ without_body (Some body) n = Nothing
 abbrev pub undefined_name : List Def → ℕ → ℕ → Option ℕ
 undefined_name defs n count = without_body (body_of (slice_get defs n) count) n
 
--- one level of a term: a name comes before its arguments, and all else in its order
+-- one level of a term: a name comes before its arguments, the head of a cell before its tail, fields before rests, and parameters before the result
 abbrev pub layer_undefined : List Def → Term-F (Option ℕ) (Option ℕ) → Option ℕ
 layer_undefined defs (Cons head tail) = or_else head tail
 layer_undefined defs (Tuple parts) = first_of parts

@@ -28,7 +28,8 @@ use std::marker::Model;
 pub enum DefFault {
     /// Memory runs out, or there would be 2^32 definitions.
     NoMemory,
-    /// The first name, in the order of the list, that has no definition with its number of arguments.
+    /// The first name, in the order of the list and of the parts of a body, that has no definition with its
+    /// number of arguments.
     NoName(u32),
     /// Each name is defined, and this is the least definition that reaches itself.
     NotContractive(u32),
@@ -70,12 +71,14 @@ impl Model for Defs {
 }
 
 impl Defs {
-    /// The definitions of a list, numbered by their places.
+    /// The definitions of a list, numbered by their places. Users expect `list` and `ends` as 0 and 1; the
+    /// contract doesn't ask for that.
     ///
     /// # Errors
     ///
-    /// `NoName` where a name in a body has no definition with its number of arguments. `NotContractive`
-    /// where each name has one, and a definition reaches itself. `NoMemory` where memory runs out, or
+    /// `NoName` where a name in a body has no definition with its number of arguments: the first one, in the
+    /// order of the list, and within a body in the order of its parts. `NotContractive` where each name has
+    /// one, and a definition reaches itself: the least one. `NoMemory` where memory runs out, or
     /// the list has 2^32 definitions.
     pub fn new(alloc: Global, list: List<Def>) -> Result<Defs, DefFault>
         requires { AreWellMade list }
@@ -91,8 +94,8 @@ impl Defs {
     ///
     /// Those of `new`, of the old definitions and the new ones together.
     pub fn add(&mut self, more: List<Def>) -> Result<(), DefFault>
-        requires { AreWellMade (self.old ++ more) }
-        ensures { MatchResult result (λ _. (self.new ≡ self.old ++ more) × AreDefinitions (self.old ++ more)) (λ fault. (self.new ≡ self.old) × IsRefusedAs (self.old ++ more) fault) }
+        requires { AreWellMade more }
+        ensures { MatchResult result (λ _. (self.new ≡ self.old ++ more) × AreDefinitions (self.old ++ more)) (λ fault. (self.new ≡ self.old) × AreDefinitions self.old × IsRefusedAs (self.old ++ more) fault) }
     {
         let signs = add_definitions(self.alloc, &mut self.list, more)?;
         self.signs = signs;
@@ -101,7 +104,8 @@ impl Defs {
 
     /// The definition of a number; `None` where it isn't below the count. Takes no memory.
     pub fn get(&self, number: u32) -> Option<&Def>
-        ensures { option_copied result ≡ slice_get self.now number }
+        ensures definition { option_copied result ≡ slice_get self.now number }
+        ensures definitions { AreDefinitions self.now }
     {
         self.list.get(number as usize)
     }

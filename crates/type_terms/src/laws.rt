@@ -2,10 +2,11 @@
 
 ghost use Rattle.std.specs.List.{Contains};
 ghost use Rattle.std.specs.Option.{option_map};
-ghost use Rattle.std.specs.Prelude.{◌≡◌, ◌↔◌, ◌<ℤ◌, ◌≤◌, ◌≤ℤ◌, ℕ, ℤ, Bool, List, Option, Some, cond, false, true, length, map, slice_get};
+ghost use Rattle.std.specs.Prelude.{◌≡◌, ◌↔◌, ◌<◌, ◌<ℤ◌, ◌≤◌, ◌≤ℤ◌, ℕ, ℤ, Bool, List, Option, Some, cond, false, true, length, map, slice_get};
 ghost use Rattle.std.specs.Prelude.{None as Nothing, not as flipped};
 ghost use Rattle.type_terms.specs.Definitions.{AreDefinitions, IsChain, NamesAreDefined};
 ghost use Rattle.type_terms.specs.Keys.{Name as KeyName, key_lt, less_int, same_key, same_name};
+ghost use Rattle.type_terms.specs.Parts.{IsPart};
 ghost use Rattle.type_terms.specs.Reading.{le_int};
 ghost use Rattle.type_terms.specs.Replacement.{Substitution, field_replaced, replaced, replaced_by};
 ghost use Rattle.type_terms.specs.Signs.{StandsUnder};
@@ -119,6 +120,15 @@ pub fn unfolding_ends()
 pub fn undefined_names()
     ensures { (defs : List Def) →
         (undefined_among defs ≡ Nothing) ↔ ((def : Def) → Contains defs def → NamesAreDefined defs def.body) }
+{}
+
+/// The first undefined name stands in a body, no definition has its number and as many parameters as it
+/// has arguments, and each name in an earlier body is defined.
+pub fn the_first_undefined_name()
+    ensures { (defs : List Def) (n : ℕ) → undefined_among defs ≡ Some n →
+        (k : ℕ) × (def : Def) × (arguments : List Term) × (slice_get defs k ≡ Some def) × IsPart (Name n arguments) def.body
+        × ((other : Def) → slice_get defs n ≡ Some other → other.params ≡ length arguments → ⊥)
+        × ((m : ℕ) (earlier : Def) → m < k → slice_get defs m ≡ Some earlier → NamesAreDefined defs earlier.body) }
 {}
 
 /// Of a part of a part the negations add up, and what stands in a term stands under as many negations

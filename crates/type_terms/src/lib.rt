@@ -10,6 +10,7 @@ mod names;
 mod naming;
 mod open_table;
 mod openness;
+mod parameter_signs;
 mod paths;
 mod plain;
 mod replacement;

@@ -14,7 +14,8 @@ ghost use Rattle.type_terms.specs.Undefined.{
 use crate::term::{Def, Field, Term};
 use sqlite_items::Boxed;
 
-/// The first name in the term, in the order of a text, that has no definition with its number of arguments.
+/// The first name in the term that has no definition with its number of arguments. A name comes before
+/// its arguments, fields come before rests, and parameters before the result.
 #[cycle(undefined)]
 #[tactic(auto, using(crate::proofs::UndefinedLaws::undefined_laws, std::proofs::lemmas::Grind::common_steps))]
 pub(crate) fn undefined_in(defs: &[Def], term: &Term) -> Option<u32>
@@ -120,7 +121,7 @@ fn undefined_in_rest(defs: &[Def], rest: &Option<Boxed<Term>>) -> Option<u32>
     }
 }
 
-/// The first such name in the bodies, in their order.
+/// The first such name in the bodies, in the order of the list, and within a body in the order of its parts.
 #[tactic(auto, using(crate::proofs::UndefinedLists::append_laws, std::proofs::lemmas::Grind::common_steps))]
 pub(crate) fn undefined_in_bodies(defs: &[Def]) -> Option<u32>
     ensures { result ≡ undefined_among defs.now }

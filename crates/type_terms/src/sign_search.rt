@@ -45,6 +45,7 @@ pub(crate) struct Signs {
 #[derive(Drop)]
 pub(crate) struct DefSigns {
     pub(crate) funs: Signs,
+    /// By the numbers of the parameters; what is missing doesn't stand in the body.
     pub(crate) parameters: List<Signs>,
 }
 
@@ -211,7 +212,7 @@ pub(crate) fn nowhere() -> Signs
 }
 
 /// What stands here, under no negation, where it is looked for.
-fn own(is_sought: bool) -> Signs
+pub(crate) fn own(is_sought: bool) -> Signs
     ensures { result ≡ own_signs is_sought }
 {
     Signs {
@@ -229,7 +230,7 @@ pub(crate) fn either(first: Signs, second: Signs) -> Signs
     }
 }
 
-fn flipped(signs: Signs) -> Signs
+pub(crate) fn flipped(signs: Signs) -> Signs
     ensures { result ≡ flipped_signs signs }
 {
     Signs {
@@ -239,7 +240,7 @@ fn flipped(signs: Signs) -> Signs
 }
 
 /// The signs through a parameter of what stands in its argument.
-fn through(parameter: Signs, inner: Signs) -> Signs
+pub(crate) fn through(parameter: Signs, inner: Signs) -> Signs
     ensures { result ≡ through_signs parameter inner }
 {
     Signs {

@@ -1,30 +1,24 @@
 //! The table of the signs of fun types and parameters in the bodies of definitions.
 
-ghost use Rattle.std.specs.Prelude.{◌≡◌, ◌+◌, ◌<◌, ◌≤◌, ℕ, IfOk, IsFalse, IsTrue, Some, get_or, length, slice_get};
-ghost use Rattle.type_terms.specs.Definitions.{VariablesBelow};
-ghost use Rattle.type_terms.specs.Refusals.{AreWellMade};
+ghost use Rattle.std.specs.Prelude.{◌≡◌, ℕ, IfOk, IsFalse, IsTrue, Some, get_or, replicate, slice_get};
 ghost use Rattle.type_terms.specs.SignTables.{
   Covers,
   HasRows,
   IsRow,
   IsSignTable,
   IsTableOf,
-  all_lacking,
-  either as either_signs,
-  empty_signs,
-  lacking,
+  empty_row,
   no_signs,
-  one_if,
-  row_lacking,
   signs_in as signs_in_term,
-  table_lacking,
 };
 ghost use Rattle.type_terms.specs.declared.sign_search.Sought.TheVariants.{Funs, Variable};
+ghost use Rattle.type_terms.specs.declared.sign_search.DefSigns.{DefSigns};
 ghost use Rattle.type_terms.specs.declared.term.Def.{Def};
 
 use crate::list::{List, NoMemory};
 use crate::naming::Worklist;
-use crate::sign_search::{DefSigns, Signs, Sought, either, nowhere, sign_at, signs_in};
+use crate::parameter_signs::add_variables;
+use crate::sign_search::{DefSigns, Signs, Sought, nowhere, own, sign_at, signs_in};
 use crate::term::Def;
 use std::alloc::Global;
 
@@ -39,41 +33,32 @@ pub(crate) fn sign_table(
     defs: &[Def],
     graph: &[List<u32>],
 ) -> Result<List<DefSigns>, NoMemory>
-    requires { AreWellMade defs.now }
     ensures { IfOk result (λ table. IsSignTable defs.now table) }
 {
-    let mut table = empty_table(alloc, defs)?;
+    let mut table = empty_table(alloc, defs.len())?;
     let mut worklist = Worklist::new(alloc, graph)?;
     raise_waiting(alloc, defs, &mut worklist, &mut table)?;
-    let mut is_new = true;
-    'rounds: while is_new {
-        is_new = raise_all(alloc, defs, &mut table)?;
+    'rounds: for _round in 0..u64::MAX {
+        let is_new = raise_all(alloc, defs, &mut table)?;
+        if !is_new {
+            return Ok(table);
+        }
     }
-    Ok(table)
+    Err(NoMemory)
 }
 
 /// A row for each definition, which says of nothing that it stands in the body.
-fn empty_table(alloc: Global, defs: &[Def]) -> Result<List<DefSigns>, NoMemory>
-    ensures { IfOk result (λ table. IsTableOf defs.now table) }
+fn empty_table(alloc: Global, count: usize) -> Result<List<DefSigns>, NoMemory>
+    ensures { IfOk result (λ table. table ≡ replicate count empty_row) }
 {
     let mut table = List::new(alloc);
-    'rows: for def in defs {
-        table.push(empty_row(alloc, def)?)?;
+    'rows: for _ in 0..count {
+        table.push(DefSigns {
+            funs: nowhere(),
+            parameters: List::new(alloc),
+        })?;
     }
     Ok(table)
-}
-
-fn empty_row(alloc: Global, def: &Def) -> Result<DefSigns, NoMemory>
-    ensures { IfOk result (λ row. row ≡ empty_signs def.now) }
-{
-    let mut parameters = List::new(alloc);
-    'parameters: for _ in 0..def.params {
-        parameters.push(nowhere())?;
-    }
-    Ok(DefSigns {
-        funs: nowhere(),
-        parameters,
-    })
 }
 
 /// Raises the rows of the definitions that wait, and of those that name one whose row was raised.
@@ -83,8 +68,7 @@ fn raise_waiting(
     worklist: &mut Worklist,
     table: &mut List<DefSigns>,
 ) -> Result<(), NoMemory>
-    requires made { AreWellMade defs.now }
-    requires said { IsTableOf defs.now table.old }
+    requires { IsTableOf defs.now table.old }
     ensures { IfOk result (λ _. IsTableOf defs.now table.new) }
 {
     'steps: for _step in 0..u64::MAX {
@@ -100,13 +84,11 @@ fn raise_waiting(
     Ok(())
 }
 
-/// Adds to each row what stands in its body by the table, and answers whether something is new.
+/// Makes each row say what stands in its body by the table, and answers whether something is new.
 fn raise_all(alloc: Global, defs: &[Def], table: &mut List<DefSigns>) -> Result<bool, NoMemory>
-    requires made { AreWellMade defs.now }
-    requires said { IsTableOf defs.now table.old }
+    requires { IsTableOf defs.now table.old }
     ensures said { IfOk result (λ is_new. IsTableOf defs.now table.new) }
     ensures all { IfOk result (λ is_new. IsFalse is_new → HasRows defs.now table.new) }
-    ensures fewer { IfOk result (λ is_new. table_lacking table.new + one_if is_new ≤ table_lacking table.old) }
 {
     let mut is_new = false;
     'bodies: for number in 0..defs.len() {
@@ -117,89 +99,65 @@ fn raise_all(alloc: Global, defs: &[Def], table: &mut List<DefSigns>) -> Result<
     Ok(is_new)
 }
 
-/// Adds to a definition's row what stands in its body by the table, and answers whether something is new.
+/// Makes a definition's row say what stands in its body by the table, and answers whether something is
+/// new.
 fn raise_at(
     alloc: Global,
     defs: &[Def],
     number: usize,
     table: &mut List<DefSigns>,
 ) -> Result<bool, NoMemory>
-    requires made { AreWellMade defs.now }
-    requires said { IsTableOf defs.now table.old }
+    requires { IsTableOf defs.now table.old }
     ensures said { IfOk result (λ is_new. IsTableOf defs.now table.new) }
     ensures same { IfOk result (λ is_new. IsFalse is_new → table.new ≡ table.old) }
     ensures row { IfOk result (λ is_new. IsFalse is_new → (def : Def) → slice_get defs.now number ≡ Some def → (row : DefSigns) × (slice_get table.old number ≡ Some row) × IsRow table.old def row) }
-    ensures fewer { IfOk result (λ is_new. table_lacking table.new + one_if is_new ≤ table_lacking table.old) }
 {
     if number >= defs.len() || number >= table.len() {
         return Ok(false);
     }
-    let def = &defs[number];
     let rows = table.as_slice();
-    let (row, is_new) = raised_row(alloc, rows, def, &rows[number])?;
+    let row = row_by(alloc, rows, &defs[number])?;
+    let is_new = !covers(&rows[number], &row);
     if is_new {
         table.set(number, row);
     }
     Ok(is_new)
 }
 
-/// A row with what stands in its body by the table, and whether something is new.
-fn raised_row(
-    alloc: Global,
-    table: &[DefSigns],
-    def: &Def,
-    row: &DefSigns,
-) -> Result<(DefSigns, bool), NoMemory>
-    requires own { VariablesBelow def.now.params def.now.body }
-    requires places { length row.now.parameters ≡ def.now.params }
-    ensures funs { IfOk result (λ made. made.0.funs ≡ either_signs row.now.funs (signs_in_term table.now Funs def.now.body)) }
-    ensures length { IfOk result (λ made. length made.0.parameters ≡ length row.now.parameters) }
-    ensures parameters { IfOk result (λ made. (i : ℕ) → i < length row.now.parameters → get_or made.0.parameters i no_signs ≡ either_signs (get_or row.now.parameters i no_signs) (signs_in_term table.now (Variable i) def.now.body)) }
-    ensures row { IfOk result (λ made. IsFalse made.1 → IsRow table.now def.now row.now) }
-    ensures fewer { IfOk result (λ made. row_lacking made.0 + one_if made.1 ≤ row_lacking row.now) }
+/// What stands in a body by the table, found in one walk for all parameters. The row has places up to
+/// the greatest variable that stands in the body.
+fn row_by(alloc: Global, table: &[DefSigns], def: &Def) -> Result<DefSigns, NoMemory>
+    ensures funs { IfOk result (λ row. row.funs ≡ signs_in_term table.now Funs def.now.body) }
+    ensures parameters { IfOk result (λ row. (i : ℕ) → get_or row.parameters i no_signs ≡ signs_in_term table.now (Variable i) def.now.body) }
 {
-    let (funs, has_new_funs) = raised(row.funs, signs_in(table, Sought::Funs, &def.body));
-    let (parameters, has_new_parameters) = raised_parameters(
-        alloc,
-        table,
-        def,
-        row.parameters.as_slice(),
-    )?;
-    Ok((
-        DefSigns { funs, parameters },
-        has_new_funs | has_new_parameters,
-    ))
+    let funs = signs_in(table, Sought::Funs, &def.body);
+    let mut parameters = List::new(alloc);
+    add_variables(table, own(true), &def.body, &mut parameters)?;
+    Ok(DefSigns { funs, parameters })
 }
 
-fn raised_parameters(
-    alloc: Global,
-    table: &[DefSigns],
-    def: &Def,
-    parameters: &[Signs],
-) -> Result<(List<Signs>, bool), NoMemory>
-    requires { length parameters.now ≡ def.now.params }
-    ensures length { IfOk result (λ made. length made.0 ≡ length parameters.now) }
-    ensures parameters { IfOk result (λ made. (i : ℕ) → i < length parameters.now → get_or made.0 i no_signs ≡ either_signs (get_or parameters.now i no_signs) (signs_in_term table.now (Variable i) def.now.body)) }
-    ensures covered { IfOk result (λ made. IsFalse made.1 → (i : ℕ) → i < length parameters.now → Covers (get_or parameters.now i no_signs) (signs_in_term table.now (Variable i) def.now.body)) }
-    ensures fewer { IfOk result (λ made. all_lacking made.0 + one_if made.1 ≤ all_lacking parameters.now) }
+/// Whether a row has each sign that another one has.
+fn covers(row: &DefSigns, other: &DefSigns) -> bool
+    ensures funs { IsTrue result → Covers row.now.funs other.now.funs }
+    ensures parameters { IsTrue result → (i : ℕ) → Covers (get_or row.now.parameters i no_signs) (get_or other.now.parameters i no_signs) }
 {
-    let mut made = List::new(alloc);
-    let mut is_new = false;
-    'parameters: for number in 0..def.params {
-        let found = signs_in(table, Sought::Variable(number), &def.body);
-        let (signs, is_more) = raised(sign_at(parameters, number as usize), found);
-        made.push(signs)?;
-        is_new |= is_more;
+    has_all(row.funs, other.funs)
+        && have_all(row.parameters.as_slice(), other.parameters.as_slice())
+}
+
+fn have_all(parameters: &[Signs], others: &[Signs]) -> bool
+    ensures { IsTrue result → (i : ℕ) → Covers (get_or parameters.now i no_signs) (get_or others.now i no_signs) }
+{
+    'others: for (number, other) in others.iter().enumerate() {
+        if !has_all(sign_at(parameters, number), *other) {
+            return false;
+        }
     }
-    Ok((made, is_new))
+    true
 }
 
-/// The signs together, and whether the second ones have one that the first ones lack.
-fn raised(signs: Signs, found: Signs) -> (Signs, bool)
-    ensures made { result.0 ≡ either_signs signs found }
-    ensures covered { IsFalse result.1 → Covers signs found }
-    ensures fewer { lacking result.0 + one_if result.1 ≤ lacking signs }
+fn has_all(signs: Signs, others: Signs) -> bool
+    ensures { IsTrue result → Covers signs others }
 {
-    let is_new = (found.even && !signs.even) || (found.odd && !signs.odd);
-    (either(signs, found), is_new)
+    (signs.even || !others.even) && (signs.odd || !others.odd)
 }

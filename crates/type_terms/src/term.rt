@@ -57,7 +57,8 @@ pub enum Term {
     Not(Boxed<Term>),
     /// A type variable, by its number.
     Var(u32),
-    /// The body of a definition, with its parameters replaced by the arguments.
+    /// The body of a definition, with its parameters replaced by the arguments; `None` where no definition
+    /// of that number has as many parameters.
     Name(u32, List<Term>),
 }
 

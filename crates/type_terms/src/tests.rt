@@ -1,8 +1,10 @@
 //! That copies, replacements and lists of definitions are made where there is memory. What they are is proved.
 
 ghost use Rattle.std.specs.List.{Contains};
-ghost use Rattle.std.specs.Prelude.{◌≡◌, [], ◌∷◌, IfOk, IsTrue};
+ghost use Rattle.std.specs.Prelude.{◌≡◌, [], ◌∷◌, IfOk, IsTrue, true};
 ghost use Rattle.type_terms.specs.Definitions.{FieldsAscend, VariablesBelow};
+ghost use Rattle.type_terms.specs.Keys.{ascending};
+ghost use Rattle.type_terms.specs.Parts.{field_keys, field_terms, rest_terms};
 ghost use Rattle.type_terms.specs.Refusals.{AreWellMade};
 ghost use Rattle.type_terms.specs.declared.term.Term.{Term};
 
@@ -116,6 +118,43 @@ fn a_replacement(rt: HostRuntime) -> Result<(), Fail> {
     Ok(())
 }
 
+/// `#{1 := A, atom() => A}`
+fn one_field(alloc: Global) -> Result<Term, NoMemory> {
+    let mut fields = List::new(alloc);
+    fields.push(Field {
+        key: Key::Int(1),
+        required: true,
+        term: Term::Var(0),
+    })?;
+    Ok(Term::Map {
+        fields,
+        rest_int: None,
+        rest_atom: Some(boxed(alloc, Term::Var(0))?),
+    })
+}
+
+/// The term of the first field; `None` where there is none.
+fn first_field(term: &Term) -> Option<&Term> {
+    match term {
+        Term::Map { fields, .. } => Some(&fields.get(0)?.term),
+        _ => None,
+    }
+}
+
+#[test]
+fn a_replacement_in_a_map(rt: HostRuntime) -> Result<(), Fail> {
+    let alloc = rt.alloc();
+    let by = one(alloc, Term::Nil)?;
+    let term = one_field(alloc)?;
+    if !is_simple(&term, 1) {
+        assert!(rt; false, "not simple");
+        return Ok(());
+    }
+    let made = replace(alloc, &term, &by)?;
+    assert!(rt; matches!(first_field(&made), Some(Term::Nil)));
+    Ok(())
+}
+
 /// How the definitions of a list lead to each other.
 #[derive(Clone, Copy)]
 enum Shape {
@@ -174,7 +213,8 @@ fn definitions(alloc: Global, shape: Shape, count: u32) -> Result<List<Def>, NoM
     Ok(list)
 }
 
-/// Whether the term has no map terms and only variables below a count. Other kinds are not looked into.
+/// Whether the term has only variables below a count, and no map terms but those of one field.
+/// Other kinds are not looked into.
 #[cycle(simple)]
 fn is_simple(term: &Term, count: u32) -> bool
     ensures { IsTrue result → VariablesBelow count term.now × FieldsAscend term.now }
@@ -189,6 +229,35 @@ fn is_simple(term: &Term, count: u32) -> bool
             are_all_simple(params.as_slice(), count) && is_simple(given.get(), count)
         }
         Term::Not(negated) => is_simple(negated.get(), count),
+        Term::Map {
+            fields,
+            rest_int,
+            rest_atom,
+        } => {
+            is_one_simple_field(fields.as_slice(), count)
+                & is_simple_rest(rest_int, count)
+                & is_simple_rest(rest_atom, count)
+        }
+        _ => false,
+    }
+}
+
+#[cycle(simple)]
+fn is_simple_rest(rest: &Option<Boxed<Term>>, count: u32) -> bool
+    ensures { IsTrue result → (t : Term) → Contains (rest_terms rest.now) t → VariablesBelow count t × FieldsAscend t }
+{
+    match rest {
+        Some(term) => is_simple(term.get(), count),
+        None => true,
+    }
+}
+
+#[cycle(simple)]
+fn is_one_simple_field(fields: &[Field], count: u32) -> bool
+    ensures { IsTrue result → (ascending (field_keys fields.now) ≡ true) × ((t : Term) → Contains (field_terms fields.now) t → VariablesBelow count t × FieldsAscend t) }
+{
+    match fields {
+        [field] => is_simple(&field.term, count),
         _ => false,
     }
 }
@@ -216,13 +285,18 @@ fn are_simple(defs: &[Def]) -> bool
     true
 }
 
-/// The definitions of a list, which are simple; `None` where they are refused or not simple.
+/// The definitions of a list, which has to be simple.
+fn simple_defs(alloc: Global, list: List<Def>) -> Result<Defs, DefFault> {
+    if !are_simple(list.as_slice()) {
+        return Err(DefFault::NoMemory);
+    }
+    Defs::new(alloc, list)
+}
+
+/// As what such definitions are refused, if they are.
 fn fault_of(alloc: Global, shape: Shape, count: u32) -> Result<Option<DefFault>, NoMemory> {
     let list = definitions(alloc, shape, count)?;
-    if !are_simple(list.as_slice()) {
-        return Err(NoMemory);
-    }
-    match Defs::new(alloc, list) {
+    match simple_defs(alloc, list) {
         Ok(_) => Ok(None),
         Err(fault) => Ok(Some(fault)),
     }
@@ -265,10 +339,10 @@ fn two(alloc: Global, first: Term, second: Term) -> Result<List<Def>, NoMemory> 
 fn added(alloc: Global, first: Term, second: Term) -> Result<(Defs, Option<DefFault>), DefFault> {
     let whole = definitions(alloc, Shape::Chain, 2)?;
     let more = two(alloc, first, second)?;
-    if !are_simple(whole.as_slice()) || !are_simple(more.as_slice()) {
+    if !are_simple(more.as_slice()) {
         return Err(DefFault::NoMemory);
     }
-    let mut defs = Defs::new(alloc, whole)?;
+    let mut defs = simple_defs(alloc, whole)?;
     match defs.add(more) {
         Ok(()) => Ok((defs, None)),
         Err(fault) => Ok((defs, Some(fault))),
@@ -292,6 +366,14 @@ fn added_definitions(rt: HostRuntime) -> Result<(), Fail> {
         return Ok(());
     };
     assert!(rt; fault == Some(DefFault::NoName(2)));
+    assert!(rt; defs.get(1).is_some());
+    assert!(rt; defs.get(2).is_none());
+    let through = name_of(alloc, 2, Term::Name(3, List::new(alloc)))?;
+    let Ok((defs, fault)) = added(alloc, Term::Var(0), through) else {
+        assert!(rt; false, "refused");
+        return Ok(());
+    };
+    assert!(rt; fault == Some(DefFault::NotContractive(3)));
     assert!(rt; defs.get(1).is_some());
     assert!(rt; defs.get(2).is_none());
     Ok(())
@@ -375,11 +457,7 @@ fn judge_names(alloc: Global, defs: &Defs, found: &mut List<bool>) -> Result<(),
 }
 
 fn judged(alloc: Global) -> Result<List<bool>, DefFault> {
-    let list = signed_definitions(alloc)?;
-    if !are_simple(list.as_slice()) {
-        return Err(DefFault::NoMemory);
-    }
-    let defs = Defs::new(alloc, list)?;
+    let defs = simple_defs(alloc, signed_definitions(alloc)?)?;
     let mut found = List::new(alloc);
     judge_variables(alloc, &defs, &mut found)?;
     judge_funs(alloc, &defs, &mut found)?;
@@ -401,5 +479,68 @@ fn signs(rt: HostRuntime) -> Result<(), Fail> {
     assert_eq!(rt; &found.as_slice()[..7], variables.as_slice());
     assert_eq!(rt; &found.as_slice()[7..12], funs.as_slice());
     assert_eq!(rt; &found.as_slice()[12..], names.as_slice());
+    Ok(())
+}
+
+/// As many types as this.
+const WIDE: u32 = 4096;
+
+/// The variables `0` to `count - 1`.
+fn variables(alloc: Global, count: u32) -> Result<List<Term>, NoMemory> {
+    let mut terms = List::new(alloc);
+    for number in 0..count {
+        terms.push(Term::Var(number))?;
+    }
+    Ok(terms)
+}
+
+/// `w(A0, ..) = {A0, .., not Z}`, where Z is the last parameter; `v(A0, ..) = w(A0, ..)`; `m(A) = #{1 := A, atom() => A}`;
+/// and a definition with as many parameters as there can be, whose body is `m([])`.
+fn wide_definitions(alloc: Global) -> Result<List<Def>, NoMemory> {
+    let mut list = List::new(alloc);
+    let mut parts = variables(alloc, WIDE - 1)?;
+    parts.push(not(alloc, Term::Var(WIDE - 1))?)?;
+    add_def(&mut list, WIDE, Term::Tuple(parts))?;
+    add_def(&mut list, WIDE, Term::Name(0, variables(alloc, WIDE)?))?;
+    add_def(&mut list, 1, one_field(alloc)?)?;
+    add_def(&mut list, u32::MAX, name_of(alloc, 2, Term::Nil)?)?;
+    Ok(list)
+}
+
+/// `v([], .., A, .., [])` with the argument at a place.
+fn wide_name(alloc: Global, place: u32) -> Result<Term, NoMemory> {
+    let mut arguments = List::new(alloc);
+    for number in 0..WIDE {
+        if number == place {
+            arguments.push(Term::Var(0))?;
+        } else {
+            arguments.push(Term::Nil)?;
+        }
+    }
+    Ok(Term::Name(1, arguments))
+}
+
+/// Judges a wide name with a variable in the first, the last but one and the last place, and `m(A)` and
+/// `m(not A)`.
+fn judged_wide(alloc: Global) -> Result<List<bool>, DefFault> {
+    let defs = simple_defs(alloc, wide_definitions(alloc)?)?;
+    let mut found = List::new(alloc);
+    judge(&defs, wide_name(alloc, 0)?, &mut found)?;
+    judge(&defs, wide_name(alloc, WIDE - 2)?, &mut found)?;
+    judge(&defs, wide_name(alloc, WIDE - 1)?, &mut found)?;
+    judge(&defs, name_of(alloc, 2, Term::Var(0))?, &mut found)?;
+    let negated = not(alloc, Term::Var(0))?;
+    judge(&defs, name_of(alloc, 2, negated)?, &mut found)?;
+    Ok(found)
+}
+
+#[test]
+fn signs_of_many_parameters(rt: HostRuntime) -> Result<(), Fail> {
+    let Ok(found) = judged_wide(rt.alloc()) else {
+        assert!(rt; false, "refused");
+        return Ok(());
+    };
+    let expected = [true, true, false, true, false];
+    assert_eq!(rt; found.as_slice(), expected.as_slice());
     Ok(())
 }

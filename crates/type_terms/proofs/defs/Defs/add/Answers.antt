@@ -1,7 +1,6 @@
-use Rattle.std.proofs.Common.{subst, sym, List, ◌++◌}
-use Rattle.type_terms.specs.declared.term.Def.{Def}
-use Rattle.type_terms.specs.Refusals.{AreWellMade}
+use Rattle.type_terms.proofs.SimpleTerms.{made-of-both}
+use Rattle.type_terms.proofs.DefinitionLaws.{made-of-definitions}
 use Rattle.type_terms.proofs.defs.Defs.add.Goals as goal
 
 pub add_definitions-requires : goal.add_definitions-requires
-add_definitions-requires c = subst (λ (defs : List Def). AreWellMade (defs ++ c.args.more)) (sym c.self.view_is) c.requires
+add_definitions-requires c = made-of-both c.self.inside.list c.args.more (made-of-definitions c.self.inside.list c.self.invariant.0) c.requires
