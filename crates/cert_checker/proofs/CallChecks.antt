@@ -13,7 +13,7 @@ use Rattle.type_terms.specs.Definitions.{given_definitions}
 use Rattle.erl_tree.specs.declared.token.Place.{Place}
 use Rattle.erl_tree.specs.Lists.{Every, Among}
 use Rattle.erl_tree.specs.Functions.{of_function}
-use Rattle.erl_tree.specs.Membership.{arrows_of}
+use Rattle.erl_runs.specs.Membership.{arrows_of}
 use Rattle.function_table.specs.Table.{ids}
 use Rattle.cert_checker.specs.declared.refusal.FirstRefusal.{FirstRefusal}
 use Rattle.cert_checker.specs.declared.refusal.FirstRefusal.TheVariants.{NoMemory, Failed}
@@ -39,7 +39,7 @@ use Rattle.type_terms.proofs.ReadingLaws.{read-And, read-Fun}
 use Rattle.cert_checker.specs.declared.expression_type.ExpressionType.TheVariants.{Integers, OneInteger, OneAtom, Parameter}
 use Rattle.cert_checker.specs.Failures.{shown_layer}
 use Rattle.cert_checker.proofs.KeyTerms.{ints-keys, atom-keys}
-use Rattle.erl_tree.specs.Membership.{no_tag}
+use Rattle.erl_runs.specs.Membership.{no_tag}
 
 -- ---- terms of keys
 

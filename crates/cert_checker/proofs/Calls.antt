@@ -17,11 +17,11 @@ use Rattle.type_terms.proofs.Contained.{contains-cases, contains-none, contains-
 use Rattle.type_terms.proofs.ReadingLaws.{read-Fun}
 use Rattle.type_terms.proofs.ReadingStability.{Stable, unit-stable, none-stable, pair-stable}
 use Rattle.erl_tree.specs.Lists.{Every}
-use Rattle.erl_tree.specs.Value.{Value, integer, atom, nil, cons, tuple, map_of, named_fun, closure, IsFun, Run, Outcome, came, raised, wrong, going}
-use Rattle.erl_tree.specs.Membership.{Program, InTerm, level, levels_below, layer, no_tag, values_in, ends_well, good_run, gives_at, IsGoodRun, calls_below, Spends}
-use Rattle.erl_tree.specs.Running.{goes_wrong, still_going}
-use Rattle.erl_tree.proofs.Equations.{in-And, in-Fun-iff}
-use Rattle.erl_tree.proofs.MembershipStability.{in-stable}
+use Rattle.erl_runs.specs.Value.{Value, integer, atom, nil, cons, tuple, map_of, named_fun, closure, IsFun, Run, Outcome, came, raised, wrong, going}
+use Rattle.erl_runs.specs.Membership.{Program, InTerm, level, levels_below, layer, no_tag, values_in, ends_well, good_run, gives_at, IsGoodRun, calls_below, Spends}
+use Rattle.erl_runs.specs.Running.{goes_wrong, still_going}
+use Rattle.erl_runs.proofs.Equations.{in-And, in-Fun-iff}
+use Rattle.erl_runs.proofs.MembershipStability.{in-stable}
 use Rattle.cert_checker.specs.Constraints.{IsWithin, AreWithin}
 use Rattle.cert_checker.specs.Failures.{keys_in}
 use Rattle.cert_checker.proofs.KeyTerms.{IsKey, IsOfKeys, values-moved, values-keys}

@@ -11,10 +11,10 @@ use Rattle.key_sets.specs.declared.key_set.KeySet.{KeySet}
 use Rattle.key_sets.specs.declared.part.Part.{Part}
 use Rattle.key_sets.specs.KeySets.{has}
 use Rattle.key_sets.specs.Parts.{part_has, parts_have}
-use Rattle.erl_tree.specs.Specs.{one_integer}
-use Rattle.erl_tree.specs.Value.{Value, integer, atom, nil, cons, tuple, map_of, named_fun, closure}
-use Rattle.erl_tree.specs.Membership.{Program}
-use Rattle.erl_tree.specs.Running.{still_going}
+use Rattle.erl_runs.specs.Specs.{one_integer}
+use Rattle.erl_runs.specs.Value.{Value, integer, atom, nil, cons, tuple, map_of, named_fun, closure}
+use Rattle.erl_runs.specs.Membership.{Program}
+use Rattle.erl_runs.specs.Running.{still_going}
 use Rattle.cert_checker.specs.declared.refusal.Shown.TheVariants.{One}
 use Rattle.cert_checker.specs.declared.spec_table.FunctionTypes.{FunctionTypes}
 use Rattle.cert_checker.specs.declared.spec_table.FormTypes.TheVariants.{Spec}

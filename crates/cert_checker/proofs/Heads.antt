@@ -14,11 +14,11 @@ use Rattle.erl_tree.specs.declared.pattern.PatternKind.{PatternKind, out-Pattern
 use Rattle.erl_tree.specs.declared.pattern.PatternKind.TheOpen as P
 use Rattle.erl_tree.specs.Lists.{Every, Among, AreDistinct}
 use Rattle.erl_tree.specs.Grammar.{IsPattern, is_pattern_layer}
-use Rattle.erl_tree.specs.Readable.{is_wildcard, bound_layer, bound_by}
-use Rattle.erl_tree.specs.Value.{Value, Environment}
-use Rattle.erl_tree.specs.Matching.{variable_value, with_variable, bound_to, match_layer, match_next, match_patterns}
-use Rattle.erl_tree.specs.Membership.{Levels, values_in}
-use Rattle.erl_tree.proofs.FiniteMapLaws.{get-insert_same, get-insert_other}
+use Rattle.erl_runs.specs.Readable.{is_wildcard, bound_layer, bound_by}
+use Rattle.erl_runs.specs.Value.{Value, Environment}
+use Rattle.erl_runs.specs.Matching.{variable_value, with_variable, bound_to, match_layer, match_next, match_patterns}
+use Rattle.erl_runs.specs.Membership.{Levels, values_in}
+use Rattle.erl_runs.proofs.FiniteMapLaws.{get-insert_same, get-insert_other}
 use Rattle.cert_checker.specs.Constraints.{variable_type}
 
 names-apart : (x y : Name) → (x ≡ y → ⊥) → (name_lt x y ≡ true) ⊎ (name_lt y x ≡ true)

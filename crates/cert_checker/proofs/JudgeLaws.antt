@@ -11,8 +11,8 @@ use Rattle.erl_tree.specs.declared.expr.ExprKind.{ExprKind, fold-ExprKind, fold-
 use Rattle.erl_tree.specs.declared.expr.ExprKind.TheVariants as X
 use Rattle.erl_tree.specs.declared.expr.ExprKind.TheOpen as E
 use Rattle.erl_tree.specs.declared.expr.ExprKind.TheShapes as S
-use Rattle.erl_tree.specs.Specs.{and_then, one_integer}
-use Rattle.erl_tree.specs.Membership.{arrows_of}
+use Rattle.erl_runs.specs.Specs.{and_then, one_integer}
+use Rattle.erl_runs.specs.Membership.{arrows_of}
 use Rattle.cert_checker.specs.Constraints.{Test, Context, JudgedAll, Judges, of_type, is_arithmetic, judge_all, operation, call, judge_layer, judge_kind, judge}
 
 module _ (fits : Test) (function : ℕ) (specs : List FunSpec) where

@@ -26,11 +26,11 @@ use Rattle.erl_tree.specs.declared.form.Function.{Function}
 use Rattle.erl_tree.specs.declared.form.Module.{Module}
 use Rattle.erl_tree.specs.Lists.{Every, Among}
 use Rattle.erl_tree.specs.Functions.{FunctionId, of_function, function_id, functions_of, function_ids, clauses_arity}
-use Rattle.erl_tree.specs.Specs.{and_then, specs_in, specs_of}
+use Rattle.erl_runs.specs.Specs.{and_then, specs_in, specs_of}
 use Rattle.erl_tree.specs.Grammar.{IsExpr, one_product, sum, IsProduct, one_operand, product, IsOperand, integer, atom, variable, parens, call as call_operand, AreArguments, no_arguments, last_argument, more_arguments, IsAdditive, IsPattern, is_pattern_layer, IsBody, IsClause, IsFunction, IsItem, is_item_layer, is_clause_layer}
-use Rattle.erl_tree.specs.Readable.{is_wildcard, bound_layer, bound_by, used_in, used_item_layer, used_by, called_in, called_item_layer, IsScopedClause, CallsOnly, IsFlatModule}
-use Rattle.erl_tree.specs.Membership.{arrows_of}
-use Rattle.erl_tree.proofs.TreeLaws.{all_used, all_called, used_in-Var, used_in-Paren, used_in-Binary, used_in-Call, called_in-Var, called_in-Paren, called_in-Binary, called_in-Call}
+use Rattle.erl_runs.specs.Readable.{is_wildcard, bound_layer, bound_by, used_in, used_item_layer, used_by, called_in, called_item_layer, IsScopedClause, CallsOnly, IsFlatModule}
+use Rattle.erl_runs.specs.Membership.{arrows_of}
+use Rattle.erl_runs.proofs.MeaningLaws.{all_used, all_called, used_in-Var, used_in-Paren, used_in-Binary, used_in-Call, called_in-Var, called_in-Paren, called_in-Binary, called_in-Call}
 use Rattle.cert_checker.specs.Constraints.{Constraint, Test, Context, Judged, JudgedAll, variable_type, of_type, is_arithmetic, operation, call, judge, judge_kind, owed_result, owed_by_item, owed_by_body, owed_by_clauses, owed_for_arrows, owed_by_functions, owed_of, result_count}
 use Rattle.cert_checker.proofs.Lists.{every-split, every-at}
 use Rattle.cert_checker.proofs.Parts.{HasOneArrow, one-arrow-each, arrow-arity, well_formed-forms, forms-functions, forms-specs, function-clause}

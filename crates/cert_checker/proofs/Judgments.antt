@@ -9,8 +9,8 @@ use Rattle.erl_tree.specs.declared.expr.BinaryOp.{BinaryOp}
 use Rattle.erl_tree.specs.declared.expr.ExprKind.{ExprKind}
 use Rattle.erl_tree.specs.declared.expr.ExprKind.TheVariants as X
 use Rattle.erl_tree.specs.Lists.{Every}
-use Rattle.erl_tree.specs.Specs.{and_then, one_integer}
-use Rattle.erl_tree.specs.Membership.{arrows_of}
+use Rattle.erl_runs.specs.Specs.{and_then, one_integer}
+use Rattle.erl_runs.specs.Membership.{arrows_of}
 use Rattle.cert_checker.specs.declared.refusal.FirstRefusal.{FirstRefusal}
 use Rattle.cert_checker.specs.declared.expression_type.ExpressionType.{ExpressionType}
 use Rattle.cert_checker.specs.declared.expression_type.ExpressionType.TheVariants.{Integers, OneInteger, OneAtom, Parameter}

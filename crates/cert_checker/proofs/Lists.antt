@@ -2,7 +2,7 @@
 use Rattle.std.proofs.Common.{◌≡◌, refl, sym, ap, subst, inl, inr, List, [], ◌∷◌, ◌++◌}
 use Rattle.std.specs.Prelude.{Option, Some, None, map}
 use Rattle.erl_tree.specs.Lists.{Every, Among}
-use Rattle.erl_tree.specs.Specs.{and_then}
+use Rattle.erl_runs.specs.Specs.{and_then}
 
 pub every-split : {A : Type 0} (P : A → Type 0) (xs ys : List A) → Every P (xs ++ ys) → Every P xs × Every P ys
 every-split P [] ys h = (tt, h)

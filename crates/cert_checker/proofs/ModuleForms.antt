@@ -24,10 +24,10 @@ use Rattle.erl_tree.specs.declared.form.Module.{Module}
 use Rattle.erl_tree.specs.Lists.{Every, Among}
 use Rattle.erl_tree.specs.Functions.{functions_in, functions_of}
 use Rattle.erl_tree.specs.Limits.{HasIntegersInLimit}
-use Rattle.erl_tree.specs.Specs.{and_then, all_present, type_term, clause_arrow, function_spec, specs_in, specs_of}
+use Rattle.erl_runs.specs.Specs.{and_then, all_present, type_term, clause_arrow, function_spec, specs_in, specs_of}
 use Rattle.erl_tree.specs.Spelling.{tokens_of, module_layer, forms_tokens, form_tokens, spec_layer, spec_clause_layer, spec_clause_tokens, function_tokens, clauses_tokens, clause_layer, clause_tokens, body_tokens, item_layer, item_tokens, pattern_tokens, type_tokens, expr_tokens}
 use Rattle.erl_tree.specs.Grammar.{IsType, IsExpr, IsForm, IsFunction, IsClause, IsItem, IsBody, IsWellFormed, AreParamMarks, is_module_layer, is_spec_layer, is_spec_clause_layer, is_function_layer, is_clause_layer, is_item_layer}
-use Rattle.erl_tree.specs.Readable.{IsFlatModule}
+use Rattle.erl_runs.specs.Readable.{IsFlatModule}
 use Rattle.cert_checker.specs.FlatTypes.{IsFlatType, IsFlatExpr}
 use Rattle.cert_checker.specs.SpecTables.{IsFlatForm, IsFlatSpec, IsFlatSpecClause}
 use Rattle.cert_checker.proofs.Lists.{every-split, every-at, then-some}

@@ -15,9 +15,9 @@ use Rattle.type_terms.specs.Reading
 use Rattle.type_terms.proofs.ReadingLaws.{read-And, read-Fun}
 use Rattle.type_terms.specs.Reading.{fun_layer, read}
 use Rattle.erl_tree.specs.Lists.{Every}
-use Rattle.erl_tree.specs.Value.{Value, integer, atom, named_fun}
-use Rattle.erl_tree.specs.Membership.{Program, InTerm, no_tag, values_in, gives_at, good_run, levels_below}
-use Rattle.erl_tree.specs.Running.{goes_wrong, still_going}
+use Rattle.erl_runs.specs.Value.{Value, integer, atom, named_fun}
+use Rattle.erl_runs.specs.Membership.{Program, InTerm, no_tag, values_in, gives_at, good_run, levels_below}
+use Rattle.erl_runs.specs.Running.{goes_wrong, still_going}
 use Rattle.cert_checker.specs.declared.refusal.Shown.{Shown}
 use Rattle.cert_checker.specs.declared.refusal.Shown.TheVariants.{One, Missing}
 use Rattle.cert_checker.specs.Constraints.{IsWithin}

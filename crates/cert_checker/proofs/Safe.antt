@@ -26,16 +26,16 @@ use Rattle.erl_tree.specs.declared.form.Function.{Function}
 use Rattle.erl_tree.specs.declared.form.Module.{Module}
 use Rattle.erl_tree.specs.Lists.{Every, Among}
 use Rattle.erl_tree.specs.Functions.{of_function, function_id, functions_of, function_ids, clauses_arity, find_function, FunctionId}
-use Rattle.erl_tree.specs.Specs.{and_then, one_integer, specs_of, specs_in, spec_id}
+use Rattle.erl_runs.specs.Specs.{and_then, one_integer, specs_of, specs_in, spec_id}
 use Rattle.erl_tree.specs.Grammar.{IsExpr, one_product, sum, IsProduct, one_operand, product, IsOperand, AreArguments, no_arguments, last_argument, more_arguments, IsAdditive, IsPattern, is_pattern_layer, IsBody}
 use Rattle.erl_tree.specs.Grammar as G
-use Rattle.erl_tree.specs.Readable.{is_wildcard, bound_layer, bound_by, HasDistinctHead, IsFlatModule}
-use Rattle.erl_tree.specs.Value.{Value, Environment, no_bindings, named_fun, Run, Outcome, came, raised, wrong, going, integer, atom, Call, nil, cons, tuple, map_of, closure}
-use Rattle.erl_tree.specs.Matching.{variable_value, match_patterns}
-use Rattle.erl_tree.specs.Membership.{Program, InTerm, values_in, arrows_if, arrows_of, ends_well, calls_within}
-use Rattle.erl_tree.specs.Running.{gives, gives_found, goes_wrong, go_on, then, Applies, operate, run_kind, run_expression, run_item_layer, run_clause, run_clauses, run_found, Code, code_of, enter, apply_within, apply, program_of}
-use Rattle.erl_tree.specs.Safety.{IsRightRun, IsSafe}
-use Rattle.erl_tree.proofs.TreeLaws.{run_args, run_kind-Int, run_kind-Atom, run_kind-Var, run_kind-Paren, run_kind-Binary, run_kind-Call}
+use Rattle.erl_runs.specs.Readable.{is_wildcard, bound_layer, bound_by, HasDistinctHead, IsFlatModule}
+use Rattle.erl_runs.specs.Value.{Value, Environment, no_bindings, named_fun, Run, Outcome, came, raised, wrong, going, integer, atom, Call, nil, cons, tuple, map_of, closure}
+use Rattle.erl_runs.specs.Matching.{variable_value, match_patterns}
+use Rattle.erl_runs.specs.Membership.{Program, InTerm, values_in, arrows_if, arrows_of, ends_well, calls_within}
+use Rattle.erl_runs.specs.Running.{gives, gives_found, goes_wrong, go_on, then, Applies, operate, run_kind, run_expression, run_item_layer, run_clause, run_clauses, run_found, Code, code_of, enter, apply_within, apply, program_of}
+use Rattle.erl_runs.specs.Safety.{IsRightRun, IsSafe}
+use Rattle.erl_runs.proofs.MeaningLaws.{run_args, run_kind-Int, run_kind-Atom, run_kind-Var, run_kind-Paren, run_kind-Binary, run_kind-Call}
 use Rattle.cert_checker.specs.Constraints.{Test, Holds, IsWithin, Context, Judged, JudgedAll, of_type, integers, is_arithmetic, operand, operation, call, variable_type, judge, judge_kind, owed_result, owed_by_clauses, owed_for_arrows, owed_by_functions, owed_of}
 use Rattle.cert_checker.specs.Failures.{MeetsConstraints}
 use Rattle.cert_checker.proofs.Lists.{every-split, every-at, then-some, some-inj, none-some}

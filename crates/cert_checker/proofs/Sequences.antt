@@ -8,8 +8,8 @@ use Rattle.erl_tree.specs.declared.form.TreeForm.TheVariants as F
 use Rattle.erl_tree.specs.declared.form.Module.{Module}
 use Rattle.erl_tree.specs.Lists.{Every, Among}
 use Rattle.erl_tree.specs.Functions.{functions_in, functions_of, clauses_arity}
-use Rattle.erl_tree.specs.Specs.{specs_of}
-use Rattle.erl_tree.specs.Membership.{arrows_of}
+use Rattle.erl_runs.specs.Specs.{specs_of}
+use Rattle.erl_runs.specs.Membership.{arrows_of}
 use Rattle.cert_checker.specs.declared.refusal.FirstRefusal.{FirstRefusal}
 use Rattle.cert_checker.specs.declared.refusal.FirstRefusal.TheVariants.{NoMemory, Failed}
 use Rattle.cert_checker.specs.Constraints.{Test, Holds, owed_for_arrows, owed_by_functions, owed_of}

@@ -23,19 +23,20 @@ use Rattle.erl_tree.specs.Lists.{Every, Among, AreDistinct}
 use Rattle.erl_tree.specs.Spelling.{tokens_of}
 use Rattle.erl_tree.specs.Limits.{integer_limit, IsInLimit, HasIntegersInLimit, IsShallow, IsShallowType, type_depth, expr_depth}
 use Rattle.erl_tree.specs.Grammar.{IsType, one_type, use_type, atom_type, IsExpr, one_product, sum, IsOperand, one_operand, integer, atom, variable, call, last_argument, IsWellFormed}
-use Rattle.erl_tree.specs.Specs.{type_term, and_then, all_present, clause_arrow, arrows_arity, function_spec, read_specs, specs_of, spec_id}
-use Rattle.erl_tree.specs.Readable.{built_ins, used_in, called_in, IsReadable, IsFlatModule}
+use Rattle.erl_runs.specs.Specs.{type_term, and_then, all_present, clause_arrow, arrows_arity, function_spec, read_specs, specs_of, spec_id}
+use Rattle.erl_runs.specs.Readable.{built_ins, used_in, called_in, IsReadable, IsFlatModule}
 use Rattle.erl_tree.specs.Functions.{FunctionId, of_function, function_ids, functions_of}
-use Rattle.erl_tree.proofs.TreeLaws.{used_laws, called_laws, expr_depth_laws, expr_tokens_laws, type_tokens_laws, type_depth_laws, type_term_laws}
+use Rattle.erl_tree.proofs.TreeLaws.{expr_depth_laws, expr_tokens_laws, type_tokens_laws, type_depth_laws}
+use Rattle.erl_runs.proofs.MeaningLaws.{used_laws, called_laws, type_term_laws}
 use Rattle.cert_checker.specs.Examples as X
 use Rattle.cert_checker.specs.Examples.{place, leaf, integer_type, small_spec_clause, small_spec, small_module, identity, constant, recursive_call, recursive, two_calls, second_call_wrong, integers, spec_to_integers, small_specs}
-use Rattle.erl_tree.specs.Specs.{one_integer}
-use Rattle.erl_tree.specs.Value as V
-use Rattle.erl_tree.specs.Running
-use Rattle.erl_tree.specs.Running.{apply, apply_within, code_of, program_of}
-use Rattle.erl_tree.specs.Membership.{ends_well}
-use Rattle.erl_tree.specs.Safety.{IsRightRun, IsSafe}
-use Rattle.erl_tree.proofs.TreeLaws.{run_laws}
+use Rattle.erl_runs.specs.Specs.{one_integer}
+use Rattle.erl_runs.specs.Value as V
+use Rattle.erl_runs.specs.Running
+use Rattle.erl_runs.specs.Running.{apply, apply_within, code_of, program_of}
+use Rattle.erl_runs.specs.Membership.{ends_well}
+use Rattle.erl_runs.specs.Safety.{IsRightRun, IsSafe}
+use Rattle.erl_runs.proofs.MeaningLaws.{run_laws}
 use Rattle.cert_checker.specs.declared.refusal.Shown.TheVariants.{One, Missing}
 use Rattle.cert_checker.specs.declared.refusal.FirstRefusal.TheVariants.{Failed}
 use Rattle.cert_checker.specs.Constraints.{Test, Holds, IsWithin, owed_by_functions, owed_of}

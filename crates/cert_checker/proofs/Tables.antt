@@ -17,11 +17,11 @@ use Rattle.erl_tree.specs.declared.form.TreeForm.{TreeForm}
 use Rattle.erl_tree.specs.declared.form.TreeForm.TheVariants as F
 use Rattle.erl_tree.specs.declared.form.Module.{Module}
 use Rattle.erl_tree.specs.Lists.{Every, Among, AreDistinct}
-use Rattle.erl_tree.specs.Functions.{FunctionId, clauses_arity, function_id, functions_of, function_ids, of_function}
-use Rattle.erl_tree.specs.Specs.{and_then, all_present, type_term, clause_arrow, function_spec, specs_in, specs_of, spec_id, spec_clauses_arity, specified_id}
+use Rattle.erl_tree.specs.Functions.{FunctionId, clauses_arity, function_id, functions_of, function_ids, of_function, spec_clauses_arity}
+use Rattle.erl_runs.specs.Specs.{and_then, all_present, type_term, clause_arrow, function_spec, specs_in, specs_of, spec_id, specified_id}
 use Rattle.erl_tree.specs.Grammar.{IsSpec, IsSpecClause}
-use Rattle.erl_tree.specs.Readable.{IsFlatModule}
-use Rattle.erl_tree.specs.Membership.{arrows_if, arrows_of}
+use Rattle.erl_runs.specs.Readable.{IsFlatModule}
+use Rattle.erl_runs.specs.Membership.{arrows_if, arrows_of}
 use Rattle.function_table.specs.Table.{Entry, ids, IsInsertion}
 use Rattle.cert_checker.specs.SpecTables.{HoldsSpecs, Adds, IsFirstArrow, IsArrowAt}
 use Rattle.cert_checker.proofs.Lists.{every-at, among-map, then-some, none-some, some-inj}

@@ -5,7 +5,7 @@ use Rattle.std.proofs.lemmas.Bool.{eqb-true}
 use Rattle.std.specs.Prelude.{Bool, true, false}
 use Rattle.std.proofs.lemmas.Option.{slice_get_read}
 use Rattle.erl_tree.specs.Lists.{Every}
-use Rattle.erl_tree.specs.Specs.{and_then, all_present}
+use Rattle.erl_runs.specs.Specs.{and_then, all_present}
 use Rattle.cert_checker.proofs.Lists.{none-some, some-inj, then-some}
 
 -- the item of a loop

@@ -12,7 +12,7 @@ use Rattle.erl_tree.specs.declared.token.Place.{Place}
 use Rattle.erl_tree.specs.declared.form.Module.{Module}
 use Rattle.erl_tree.specs.Lists.{Every}
 use Rattle.erl_tree.specs.Functions.{functions_of}
-use Rattle.erl_tree.specs.Membership.{no_tag}
+use Rattle.erl_runs.specs.Membership.{no_tag}
 use Rattle.cert_checker.specs.declared.refusal.Shown.{Shown}
 use Rattle.cert_checker.specs.declared.refusal.Shown.TheVariants.{One, Missing}
 use Rattle.cert_checker.specs.declared.refusal.FirstRefusal.{FirstRefusal}

@@ -19,9 +19,9 @@ use Rattle.erl_tree.specs.declared.expr.ExprKind.{ExprKind, fold-ExprKind}
 use Rattle.erl_tree.specs.declared.expr.ExprKind.TheOpen as E
 use Rattle.erl_tree.specs.Grammar.{IsType, IsExpr}
 use Rattle.erl_tree.specs.Limits.{integer_limit}
-use Rattle.erl_tree.specs.Specs.{and_then, end_of, range, type_term}
-use Rattle.erl_tree.specs.Value.{Value, integer, atom}
-use Rattle.erl_tree.specs.Membership.{Program, InTerm}
+use Rattle.erl_runs.specs.Specs.{and_then, end_of, range, type_term}
+use Rattle.erl_runs.specs.Value.{Value, integer, atom}
+use Rattle.erl_runs.specs.Membership.{Program, InTerm}
 
 -- ---- sets of values
 

@@ -13,15 +13,15 @@ use Rattle.key_sets.specs.declared.key_set.KeySet.{KeySet}
 use Rattle.erl_tree.specs.declared.token.Node.{Node}
 use Rattle.erl_tree.specs.declared.pattern.PatternKind.{PatternKind, out-PatternKind}
 use Rattle.erl_tree.specs.declared.token.Place.{Place}
-use Rattle.erl_tree.specs.Readable.{is_wildcard, bound_layer}
+use Rattle.erl_runs.specs.Readable.{is_wildcard, bound_layer}
 use Rattle.erl_tree.specs.declared.expr.ExprKind.{ExprKind}
 use Rattle.erl_tree.specs.declared.expr.ExprKind.TheOpen as E
 use Rattle.erl_tree.specs.declared.expr.ItemKind.{ItemKind, out-ItemKind}
 use Rattle.erl_tree.specs.declared.expr.ClauseKind.{ClauseKind, out-ClauseKind}
 use Rattle.erl_tree.specs.Lists.{Every, Among}
 use Rattle.erl_tree.specs.Functions.{of_function}
-use Rattle.erl_tree.specs.Specs.{and_then, one_integer}
-use Rattle.erl_tree.specs.Membership.{arrows_of}
+use Rattle.erl_runs.specs.Specs.{and_then, one_integer}
+use Rattle.erl_runs.specs.Membership.{arrows_of}
 use Rattle.function_table.specs.Table.{ids}
 use Rattle.cert_checker.specs.declared.refusal.FirstRefusal.{FirstRefusal}
 use Rattle.cert_checker.specs.declared.refusal.FirstRefusal.TheVariants.{NoMemory, Failed}

@@ -2,7 +2,7 @@ ghost use Rattle.std.specs.Prelude.{◌≡◌, ◌+◌, List, [], ◌∷◌, IfO
 ghost use Rattle.type_terms.specs.declared.term.Term.{Term};
 ghost use Rattle.type_terms.specs.declared.spec.Arrow.{Arrow};
 ghost use Rattle.erl_tree.specs.Lists.{Every};
-ghost use Rattle.erl_tree.specs.Membership.{arrows_of};
+ghost use Rattle.erl_runs.specs.Membership.{arrows_of};
 ghost use Rattle.cert_checker.specs.Constraints.{Holds};
 ghost use Rattle.cert_checker.specs.Failures.{ShowsFailure};
 ghost use Rattle.cert_checker.specs.Judging.{Setting, StandsFor, StandForAll, IsCall, type_of_call, owed_call};

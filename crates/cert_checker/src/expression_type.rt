@@ -1,7 +1,7 @@
 ghost use Rattle.std.specs.Prelude.{◌≡◌, Some, true, IfOk, slice_get};
 ghost use Rattle.type_terms.specs.declared.term.Term.{Term, AtomLit};
 ghost use Rattle.key_sets.specs.Parts.{IsLimited};
-ghost use Rattle.erl_tree.specs.Specs.{one_integer};
+ghost use Rattle.erl_runs.specs.Specs.{one_integer};
 ghost use Rattle.cert_checker.specs.declared.spec_table.FunctionTypes.{FunctionTypes};
 ghost use Rattle.cert_checker.specs.declared.spec_table.FormTypes.TheVariants.{Spec};
 ghost use Rattle.cert_checker.specs.declared.expression_type.ExpressionType.TheVariants.{Parameter, ResultAt};

@@ -9,7 +9,7 @@ use Rattle.erl_tree.specs.declared.token.Place.{Place}
 use Rattle.erl_tree.specs.declared.token.Token.TheVariants as T
 use Rattle.erl_tree.specs.Spelling.{tokens_of}
 use Rattle.erl_tree.specs.Grammar.{IsWellFormed, SpellsModule}
-use Rattle.erl_tree.specs.Readable.{IsFlatModule}
+use Rattle.erl_runs.specs.Readable.{IsFlatModule}
 use Rattle.erl_tree.specs.declared.token.Placed.{Placed}
 use Rattle.erl_tree.specs.declared.form.Module.{Module}
 use Rattle.erl_tree.proofs.Spelled.{bytes_spell_one}

@@ -6,7 +6,7 @@ ghost use Rattle.erl_tree.specs.Lists.{Every};
 ghost use Rattle.erl_tree.specs.Spelling.{tokens_of};
 ghost use Rattle.erl_tree.specs.Grammar.{IsWellFormed};
 ghost use Rattle.erl_tree.specs.Limits.{IsInLimit};
-ghost use Rattle.erl_tree.specs.Readable.{IsFlatModule};
+ghost use Rattle.erl_runs.specs.Readable.{IsFlatModule};
 
 use crate::fault::FirstFault;
 use crate::parse::parse_flat;

@@ -10,8 +10,8 @@ use Rattle.erl_tree.specs.declared.expr.ExprKind.TheVariants as X
 use Rattle.erl_tree.specs.declared.expr.ExprKind.TheOpen as E
 use Rattle.erl_tree.specs.Functions.{FunctionId, of_function}
 use Rattle.erl_tree.specs.Lists.{Every, Among}
-use Rattle.erl_tree.specs.Readable.{called_in}
-use Rattle.erl_tree.proofs.TreeLaws.{all_called, called_in-Paren, called_in-Binary}
+use Rattle.erl_runs.specs.Readable.{called_in}
+use Rattle.erl_runs.proofs.MeaningLaws.{all_called, called_in-Paren, called_in-Binary}
 use Rattle.erl_scope.specs.Names.{ExpressionCallsOnly}
 use Rattle.erl_scope.proofs.OneLevel.{called_of, called_in-out}
 use Rattle.erl_scope.proofs.Parts.{of_same, of_both, of_first, of_all, if_answered}

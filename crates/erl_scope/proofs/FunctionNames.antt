@@ -7,7 +7,7 @@ use Rattle.erl_tree.specs.declared.form.TreeForm.{TreeForm}
 use Rattle.erl_tree.specs.declared.form.TreeForm.TheVariants as F
 use Rattle.erl_tree.specs.Lists.{Every, Among, AreDistinct}
 use Rattle.erl_tree.specs.Functions.{FunctionId, function_id, functions_in}
-use Rattle.erl_tree.specs.Specs.{specs_in, specified_id}
+use Rattle.erl_runs.specs.Specs.{specs_in, specified_id}
 use Rattle.function_table.specs.Table.{Entry, ids, IsInsertion, IsFound}
 use Rattle.function_table.proofs.Distinct.{AreDistinct-push}
 use Rattle.function_table.proofs.Lookups.{Among-ids}

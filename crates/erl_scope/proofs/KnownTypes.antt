@@ -7,8 +7,8 @@ use Rattle.erl_tree.specs.declared.token.Node.{Node}
 use Rattle.erl_tree.specs.declared.pattern.LiteralKind.{LiteralKind}
 use Rattle.erl_tree.specs.declared.type_expr.TypeKind.{TypeKind}
 use Rattle.erl_tree.specs.declared.type_expr.TypeKind.TheVariants as Y
-use Rattle.erl_tree.specs.Specs.{type_term, type_kind_term}
-use Rattle.erl_tree.proofs.TreeLaws.{type_kind_term-Paren, type_kind_term-Or, type_kind_term-Range}
+use Rattle.erl_runs.specs.Specs.{type_term, type_kind_term}
+use Rattle.erl_runs.proofs.MeaningLaws.{type_kind_term-Paren, type_kind_term-Or, type_kind_term-Range}
 use Rattle.erl_scope.specs.Names.{range_term, use_term}
 use Rattle.erl_scope.proofs.OneLevel.{term_of, type_kind_term-out}
 use Rattle.erl_scope.proofs.SpecTerms.{both_known, first_unknown}

@@ -16,9 +16,9 @@ use Rattle.erl_tree.specs.declared.expr.AssocKind.{AssocKind}
 use Rattle.erl_tree.specs.declared.expr.CatchKind.{CatchKind}
 use Rattle.erl_tree.specs.declared.expr.ClauseKind.{ClauseKind}
 use Rattle.erl_tree.specs.Functions.{FunctionId, of_function}
-use Rattle.erl_tree.specs.Specs.{one_integer, and_then, type_term_layer, type_kind_term}
-use Rattle.erl_tree.specs.Readable.{together, used_layer, used_in, called_layer, called_in}
-use Rattle.erl_tree.proofs.TreeLaws.{all_used, all_called}
+use Rattle.erl_runs.specs.Specs.{one_integer, and_then, type_term_layer, type_kind_term}
+use Rattle.erl_runs.specs.Readable.{together, used_layer, used_in, called_layer, called_in}
+use Rattle.erl_runs.proofs.MeaningLaws.{all_used, all_called}
 use Rattle.erl_scope.specs.Names.{range_term, use_term}
 
 -- ---- types

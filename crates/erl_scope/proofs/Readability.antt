@@ -13,10 +13,10 @@ use Rattle.erl_tree.specs.declared.form.TreeForm.TheVariants as F
 use Rattle.erl_tree.specs.declared.form.Module.{Module}
 use Rattle.erl_tree.specs.Lists.{Every, Among, AreDistinct}
 use Rattle.erl_tree.specs.Functions.{FunctionId, function_id, functions_in, function_ids}
-use Rattle.erl_tree.specs.Specs.{function_spec, specs_in, read_specs, specs_of, spec_id}
+use Rattle.erl_runs.specs.Specs.{function_spec, specs_in, read_specs, specs_of, spec_id}
 use Rattle.erl_tree.specs.Grammar.{IsWellFormed}
 use Rattle.erl_tree.specs.Limits.{IsShallow, HasIntegersInLimit}
-use Rattle.erl_tree.specs.Readable.{IsScoped, IsScopedClause, FunctionCallsOnly, CallsOnly, called_item_layer, built_ins, HasDistinctHead, HasDistinctHeads, is_built_in, IsFlatModule}
+use Rattle.erl_runs.specs.Readable.{IsScoped, IsScopedClause, FunctionCallsOnly, CallsOnly, called_item_layer, built_ins, HasDistinctHead, HasDistinctHeads, is_built_in, IsFlatModule}
 use Rattle.function_table.proofs.Distinct.{Among-append_left}
 use Rattle.erl_scope.specs.declared.function_names.Role.TheVariants.{Definition, Specification}
 use Rattle.erl_scope.specs.Names.{names_in, FormCallsOnly, IsRightClause, IsRightFunction, IsRightForm, HasMatchingNames}

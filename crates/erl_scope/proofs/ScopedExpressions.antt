@@ -8,8 +8,8 @@ use Rattle.erl_tree.specs.declared.expr.BinaryOp.{BinaryOp}
 use Rattle.erl_tree.specs.declared.expr.ExprKind.{ExprKind}
 use Rattle.erl_tree.specs.declared.expr.ExprKind.TheVariants as X
 use Rattle.erl_tree.specs.Lists.{Every, Among}
-use Rattle.erl_tree.specs.Readable.{bound_by, used_in}
-use Rattle.erl_tree.proofs.TreeLaws.{all_used, used_in-Var, used_in-Paren, used_in-Binary}
+use Rattle.erl_runs.specs.Readable.{bound_by, used_in}
+use Rattle.erl_runs.proofs.MeaningLaws.{all_used, used_in-Var, used_in-Paren, used_in-Binary}
 use Rattle.erl_scope.specs.Names.{IsScopedExpression}
 use Rattle.erl_scope.proofs.OneLevel.{used_of, used_in-out}
 use Rattle.erl_scope.proofs.Parts.{of_same, of_one, of_both, of_first, of_all}

@@ -8,8 +8,8 @@ use Rattle.erl_tree.specs.declared.type_expr.TypeKind.{TypeKind}
 use Rattle.erl_tree.specs.declared.form.SpecKind.{SpecKind}
 use Rattle.erl_tree.specs.declared.form.SpecClauseKind.{SpecClauseKind}
 use Rattle.erl_tree.specs.Lists.{Every}
-use Rattle.erl_tree.specs.Specs.{and_then, all_present, type_term, clause_arrow, arrows_arity, function_spec, spec_id, spec_clauses_arity, specified_id}
-use Rattle.erl_tree.specs.Functions.{of_function}
+use Rattle.erl_runs.specs.Specs.{and_then, all_present, type_term, clause_arrow, arrows_arity, function_spec, spec_id, specified_id}
+use Rattle.erl_tree.specs.Functions.{of_function, spec_clauses_arity}
 
 module _ {A B C : Type 0} where
   -- both are there

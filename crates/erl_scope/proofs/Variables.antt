@@ -8,7 +8,7 @@ use Rattle.erl_tree.specs.declared.pattern.PatternKind.TheOpen as P
 use Rattle.erl_tree.specs.declared.expr.ItemKind.{ItemKind, out-ItemKind}
 use Rattle.erl_tree.specs.declared.expr.ClauseKind.{ClauseKind, out-ClauseKind}
 use Rattle.erl_tree.specs.Lists.{Every, Among, AreDistinct}
-use Rattle.erl_tree.specs.Readable.{bound_by, bound_layer, is_wildcard, used_by, used_item_layer, IsScopedClause}
+use Rattle.erl_runs.specs.Readable.{bound_by, bound_layer, is_wildcard, used_by, used_item_layer, IsScopedClause}
 use Rattle.function_table.proofs.Distinct.{Among-append_left, Among-append_right, Among-append}
 use Rattle.erl_scope.specs.Names.{IsFresh, IsScopedItem, IsRightClause}
 use Rattle.erl_scope.proofs.ForEach.{rest_at}

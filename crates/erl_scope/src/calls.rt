@@ -3,7 +3,7 @@
 ghost use Rattle.std.specs.Prelude.{◌↔◌, IsTrue, IfOk};
 ghost use Rattle.erl_tree.specs.Lists.{Every, Among};
 ghost use Rattle.erl_tree.specs.Functions.{of_function};
-ghost use Rattle.erl_tree.specs.Readable.{called_in, CallsOnly};
+ghost use Rattle.erl_runs.specs.Readable.{called_in, CallsOnly};
 ghost use Rattle.function_table.specs.Table.{ids};
 ghost use Rattle.erl_scope.specs.Names.{ExpressionCallsOnly, ItemCallsOnly, FormCallsOnly};
 

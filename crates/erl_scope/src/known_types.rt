@@ -2,7 +2,7 @@
 
 ghost use Rattle.std.specs.Prelude.{◌≡◌, ◌↔◌, IsTrue, IsSome, is_some};
 ghost use Rattle.erl_tree.specs.Lists.{Every};
-ghost use Rattle.erl_tree.specs.Specs.{type_term, built_in_type, clause_arrow, function_spec};
+ghost use Rattle.erl_runs.specs.Specs.{type_term, built_in_type, clause_arrow, function_spec};
 ghost use Rattle.erl_scope.specs.Names.{range_term, use_term};
 
 use crate::text::is_text;

@@ -3,7 +3,7 @@
 ghost use Rattle.std.specs.Prelude.{IsTrue, IfOk};
 ghost use Rattle.erl_tree.specs.Grammar.{IsWellFormed};
 ghost use Rattle.erl_tree.specs.Limits.{IsShallow, HasIntegersInLimit};
-ghost use Rattle.erl_tree.specs.Readable.{IsFlatModule};
+ghost use Rattle.erl_runs.specs.Readable.{IsFlatModule};
 
 use crate::forms::are_right_forms;
 use crate::function_names::has_matching_names;

@@ -4,7 +4,7 @@ ghost use Rattle.std.specs.Prelude.{◌≡◌, ◌↔◌, IsTrue};
 ghost use Rattle.std.specs.Option.{option_copied};
 ghost use Rattle.erl_tree.specs.declared.pattern.PatternKind.{out-PatternKind};
 ghost use Rattle.erl_tree.specs.Lists.{Every, Among, AreDistinct};
-ghost use Rattle.erl_tree.specs.Readable.{bound_by, bound_layer, used_in};
+ghost use Rattle.erl_runs.specs.Readable.{bound_by, bound_layer, used_in};
 ghost use Rattle.erl_scope.specs.Names.{listed, IsScopedExpression, IsScopedItem, IsFresh, IsRightClause};
 
 use crate::text::is_text;

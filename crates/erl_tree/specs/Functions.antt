@@ -4,6 +4,7 @@ use Rattle.type_terms.specs.Keys.{Name, same_name}
 use Rattle.erl_tree.specs.declared.token.Node.{Node}
 use Rattle.erl_tree.specs.declared.expr.ClauseKind.{ClauseKind, out-ClauseKind}
 use Rattle.erl_tree.specs.declared.form.Function.{Function}
+use Rattle.erl_tree.specs.declared.form.SpecClauseKind.{SpecClauseKind}
 use Rattle.erl_tree.specs.declared.form.TreeForm.{TreeForm}
 use Rattle.erl_tree.specs.declared.form.TreeForm.TheVariants as F
 use Rattle.erl_tree.specs.declared.form.Module.{Module}
@@ -21,6 +22,11 @@ of_function name arity = record { name = name; arity = arity }
 abbrev pub clauses_arity : List (Node ClauseKind) → ℕ
 clauses_arity [] = 0
 clauses_arity (c ∷ cs) = length (out-ClauseKind c.kind).patterns
+
+-- the number of parameters of a spec's first clause
+abbrev pub spec_clauses_arity : List (Node SpecClauseKind) → ℕ
+spec_clauses_arity [] = 0
+spec_clauses_arity (c ∷ cs) = length c.kind.params
 
 -- a function's name and arity
 abbrev pub function_id : Function → FunctionId

@@ -6,14 +6,5 @@ pub mod Limits
 pub mod Profile
 pub mod Faults
 pub mod Functions
-pub mod Specs
-pub mod Readable
-pub mod Value
-pub mod FiniteMaps
-pub mod Membership
-pub mod Matching
-pub mod Running
-pub mod Safety
 pub mod SmallText
-pub mod SmallPrograms
 pub mod SmallTrees

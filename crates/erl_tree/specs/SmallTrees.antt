@@ -1,7 +1,6 @@
 -- Small trees, for examples.
-use Rattle.std.specs.Prelude.{ℕ, ℤ, pos, List, [], ◌∷◌, Some, None, codes}
+use Rattle.std.specs.Prelude.{ℕ, ℤ, pos, List, [], ◌∷◌, None, codes}
 use Rattle.type_terms.specs.Keys.{Name}
-use Rattle.type_terms.specs.declared.term.Term.{Term, Ints, AtomLit, Or}
 use Rattle.erl_tree.specs.declared.token.Placed.{Placed}
 use Rattle.erl_tree.specs.declared.token.Node.{Node}
 use Rattle.erl_tree.specs.declared.token.Token.TheVariants as T
@@ -23,7 +22,6 @@ use Rattle.erl_tree.specs.declared.expr.ExprKind.TheOpen as E
 use Rattle.erl_tree.specs.declared.form.Function.{Function}
 use Rattle.erl_tree.specs.Spelling.{at, mark}
 use Rattle.erl_tree.specs.Grammar.{node}
-use Rattle.erl_tree.specs.Running.{Code}
 use Rattle.erl_tree.specs.SmallText.{place}
 
 -- ---- expressions
@@ -74,10 +72,6 @@ range_type_of low high = node (place 1) (place 2 ∷ []) (Y.Range (end_at low 1)
 abbrev pub range_or_atom : Node TypeKind
 range_or_atom = node (place 1) (place 5 ∷ []) (Y.Or (range_type_of (pos 1) (pos 3)) (node (place 6) (place 6 ∷ []) (Y.Atom (codes "a"))))
 
--- the integers from 1 to 3, or the atom a
-abbrev pub range_or_atom_term : Term
-range_or_atom_term = Or (Ints (Some (pos 1)) (Some (pos 3)) ∷ AtomLit (codes "a") ∷ [])
-
 -- ---- functions
 
 -- `f(X)`
@@ -100,7 +94,3 @@ calls_itself = record {
   marks = place 11 ∷ [];
   clauses = node (place 1) (place 1 ∷ place 2 ∷ place 4 ∷ place 5 ∷ []) (roll-ClauseKind self_call_layer) ∷ [];
 }
-
--- the code of this function alone
-abbrev pub endless_code : Code
-endless_code = record { functions = calls_itself ∷ []; funs = [] }

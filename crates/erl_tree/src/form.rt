@@ -1,6 +1,5 @@
 ghost use Rattle.std.specs.Prelude.{◌≡◌};
-ghost use Rattle.erl_tree.specs.Functions.{clauses_arity};
-ghost use Rattle.erl_tree.specs.Specs.{spec_clauses_arity};
+ghost use Rattle.erl_tree.specs.Functions.{clauses_arity, spec_clauses_arity};
 
 use crate::expr::{Clause, Expr};
 use crate::token::{Node, Place, Token};

@@ -1,13 +1,10 @@
 //! Tokens and trees of Erlang modules, with their places.
 #![tactic(auto)]
 
-pub mod examples;
-pub mod examples_of_runs;
 pub mod examples_of_text;
 pub mod examples_of_trees;
 mod expr;
 mod form;
-pub mod laws;
 pub mod laws_of_text;
 mod pattern;
 mod plain;

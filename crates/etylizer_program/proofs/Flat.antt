@@ -8,7 +8,7 @@ use Rattle.erl_tree.specs.declared.form.TreeForm.{TreeForm}
 use Rattle.erl_tree.specs.declared.form.TreeForm.TheVariants as F
 use Rattle.erl_tree.specs.declared.form.Module.{Module}
 use Rattle.erl_tree.specs.Grammar.{IsWellFormed, IsForm, is_module_layer, is_spec_layer}
-use Rattle.erl_tree.specs.Specs.{specs_in}
+use Rattle.erl_runs.specs.Specs.{specs_in}
 use Rattle.etylizer_program.specs.Check.{clauses_in, spec_clause_count}
 
 one_clause : (cs : List (Node SpecClauseKind)) (p : Place) (ms : List Place) → is_spec_layer cs p ms → length cs ≡ 1

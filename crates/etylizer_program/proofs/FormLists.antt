@@ -3,7 +3,7 @@ use Rattle.std.proofs.Common.{◌≡◌, List, [], ◌∷◌, ◌++◌, refl, ap
 use Rattle.erl_tree.specs.declared.form.TreeForm.{TreeForm}
 use Rattle.erl_tree.specs.declared.form.TreeForm.TheVariants as F
 use Rattle.erl_tree.specs.Functions.{functions_in}
-use Rattle.erl_tree.specs.Specs.{specs_in}
+use Rattle.erl_runs.specs.Specs.{specs_in}
 
 pub functions_in_append : (xs ys : List TreeForm) → functions_in (xs ++ ys) ≡ functions_in xs ++ functions_in ys
 functions_in_append [] ys = refl

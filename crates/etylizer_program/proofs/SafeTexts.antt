@@ -3,11 +3,11 @@ use Rattle.std.proofs.Common.{◌≡◌, refl}
 use Rattle.std.specs.Prelude.{codes}
 use Rattle.type_terms.specs.Definitions.{given_definitions}
 use Rattle.erl_tree.specs.SmallText.{small_text, small_module}
-use Rattle.erl_tree.specs.Specs.{specs_of}
+use Rattle.erl_runs.specs.Specs.{specs_of}
 use Rattle.erl_tree.specs.Grammar.{SpellsModule}
 use Rattle.erl_tree.specs.Spelling.{tokens_of}
-use Rattle.erl_tree.specs.Readable.{IsReadable}
-use Rattle.erl_tree.specs.Safety.{IsSafe, IsSafeText}
+use Rattle.erl_runs.specs.Readable.{IsReadable}
+use Rattle.erl_runs.specs.Safety.{IsSafe, IsSafeText}
 use Rattle.erl_tree.specs.declared.form.Module.{Module}
 use Rattle.erl_tree.proofs.TextExamples.{small_spelled, dollar_spells_nothing}
 use Rattle.erl_parser.proofs.ModuleLaws.{one_module}

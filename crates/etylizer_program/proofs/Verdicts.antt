@@ -6,7 +6,7 @@ use Rattle.erl_tree.specs.declared.form.Module.{Module}
 use Rattle.erl_tree.specs.declared.token.Place.{Place}
 use Rattle.type_terms.specs.declared.spec.Kind.{Kind}
 use Rattle.erl_tree.specs.Functions.{functions_in, functions_of}
-use Rattle.erl_tree.specs.Specs.{specs_of, specs_in}
+use Rattle.erl_runs.specs.Specs.{specs_of, specs_in}
 use Rattle.erl_tree.specs.declared.token.Placed.{Placed}
 use Rattle.erl_tree.specs.Lexis.{SpellsTokens}
 use Rattle.erl_tree.specs.Spelling.{tokens_of}
@@ -15,8 +15,8 @@ use Rattle.erl_tree.specs.Profile.{IsLexed}
 use Rattle.erl_tree.proofs.Lexed.{lexed_is_spelled}
 use Rattle.erl_parser.specs.declared.fault.FirstFault.{FirstFault}
 use Rattle.erl_parser.proofs.TextLaws.{same_tokens}
-use Rattle.erl_tree.specs.Readable.{IsFlatModule}
-use Rattle.erl_tree.specs.Safety.{IsSafe, IsSafeText}
+use Rattle.erl_runs.specs.Readable.{IsFlatModule}
+use Rattle.erl_runs.specs.Safety.{IsSafe, IsSafeText}
 use Rattle.cert_checker.specs.Failures.{MeetsConstraints, ShowsFirstFailure}
 use Rattle.cert_checker.specs.declared.refusal.FirstRefusal.{FirstRefusal}
 use Rattle.cert_checker.specs.declared.refusal.FirstRefusal.TheVariants as F

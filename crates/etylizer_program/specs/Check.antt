@@ -9,7 +9,7 @@ use Rattle.erl_tree.specs.declared.form.Function.{Function}
 use Rattle.erl_tree.specs.declared.form.SpecKind.{SpecKind}
 use Rattle.erl_tree.specs.declared.form.Module.{Module}
 use Rattle.erl_tree.specs.Functions.{functions_of, clauses_arity}
-use Rattle.erl_tree.specs.Specs.{specs_of, specs_in}
+use Rattle.erl_runs.specs.Specs.{specs_of, specs_in}
 use Rattle.erl_tree.specs.declared.token.Placed.{Placed}
 use Rattle.erl_tree.specs.Grammar.{SpellsModule}
 use Rattle.erl_tree.specs.Spelling.{tokens_of}
@@ -18,8 +18,8 @@ use Rattle.erl_lexer.specs.declared.LexFault.{LexFault}
 use Rattle.erl_lexer.specs.declared.LexFault.TheVariants as L
 use Rattle.erl_lexer.specs.Faults.{IsFault}
 use Rattle.erl_tree.specs.Lists.{Every}
-use Rattle.erl_tree.specs.Readable.{IsFlatModule}
-use Rattle.erl_tree.specs.Safety.{IsSafe, IsSafeText}
+use Rattle.erl_runs.specs.Readable.{IsFlatModule}
+use Rattle.erl_runs.specs.Safety.{IsSafe, IsSafeText}
 use Rattle.cert_checker.specs.declared.refusal.Shown.{Shown}
 use Rattle.cert_checker.specs.declared.refusal.FirstRefusal.{FirstRefusal}
 use Rattle.cert_checker.specs.declared.refusal.FirstRefusal.TheVariants.{NoMemory as NoMemoryToCheck, Failed as FailedConstraint}

@@ -1,8 +1,8 @@
 -- What the program claims: of a text that it accepts, and of its output at each status.
 use Rattle.std.specs.Prelude.{◌≡◌, ◌≢◌, ◌⊎◌, ◌≤◌, ℕ, List, [], ◌∷◌, length, Option, Some, None, codes}
 use Rattle.std.specs.Option.{ForSome}
-use Rattle.erl_tree.specs.Readable.{IsFlatModule}
-use Rattle.erl_tree.specs.Safety.{IsSafeText}
+use Rattle.erl_runs.specs.Readable.{IsFlatModule}
+use Rattle.erl_runs.specs.Safety.{IsSafeText}
 use Rattle.cert_checker.specs.Failures.{MeetsConstraints}
 use Rattle.etylizer_program.specs.declared.report.Verdict.{Verdict}
 use Rattle.etylizer_program.specs.declared.report.Verdict.TheVariants.{Accepted, Failed, NotText, NotUtf8, TooLong, NotBuilt, Usage}

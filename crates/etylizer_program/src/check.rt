@@ -1,6 +1,6 @@
 ghost use Rattle.std.specs.Prelude.{◌≡◌, ◌⊎◌, ◌<◌, ◌≤◌, ◌↔◌, length, IfOk, IfErr, IsOk, IsErrOf};
 ghost use Rattle.erl_tree.specs.Profile.{IsLexed};
-ghost use Rattle.erl_tree.specs.Readable.{IsFlatModule};
+ghost use Rattle.erl_runs.specs.Readable.{IsFlatModule};
 ghost use Rattle.cert_checker.specs.declared.refusal.FirstRefusal.{FirstRefusal as Failure};
 ghost use Rattle.cert_checker.specs.Failures.{ShowsFirstFailure};
 ghost use Rattle.etylizer_program.specs.Check.{text_limit, IsNotRead, IsRightText, IsReadAs, IsAcceptedModule, IsAcceptedText, IsTextRefusal, refused_as};

@@ -1,7 +1,7 @@
 ghost use Rattle.std.specs.Prelude.{◌≡◌, ◌≤◌, length, slice_get, [], ◌∷◌};
 ghost use Rattle.std.specs.Option.{option_copied};
 ghost use Rattle.erl_tree.specs.Functions.{functions_in};
-ghost use Rattle.erl_tree.specs.Specs.{specs_in};
+ghost use Rattle.erl_runs.specs.Specs.{specs_in};
 
 use erl_tree::{Function, TreeForm};
 

@@ -1,6 +1,6 @@
 ghost use Rattle.std.specs.Prelude.{◌≡◌, ◌<◌, ◌≤◌, ℕ, List as Listed, length, IfOk};
 ghost use Rattle.erl_tree.specs.Functions.{functions_of};
-ghost use Rattle.erl_tree.specs.Readable.{IsFlatModule};
+ghost use Rattle.erl_runs.specs.Readable.{IsFlatModule};
 ghost use Rattle.cert_checker.specs.Failures.{ShowsFirstFailure};
 ghost use Rattle.etylizer_program.specs.Check.{text_limit, IsFirstFault, IsModuleVerdict, IsRightVerdict};
 

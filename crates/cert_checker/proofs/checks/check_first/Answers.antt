@@ -3,7 +3,7 @@ use Rattle.std.proofs.lemmas.Result.{err_from_is_err_and}
 use Rattle.erl_tree.specs.declared.form.TreeForm.{TreeForm}
 use Rattle.erl_tree.specs.Lists.{Every}
 use Rattle.erl_tree.specs.Functions.{functions_in}
-use Rattle.erl_tree.specs.Specs.{specs_of}
+use Rattle.erl_runs.specs.Specs.{specs_of}
 use Rattle.cert_checker.specs.Constraints.{Holds, owed_by_functions, owed_of}
 use Rattle.cert_checker.proofs.Safe.{meets-safe}
 use Rattle.cert_checker.proofs.Takes.{item-found, take-all}

@@ -4,7 +4,7 @@ use Rattle.std.specs.Prelude.{neg_ℤ}
 use Rattle.std.proofs.lemmas.Int.{ints}
 use Rattle.std.proofs.lemmas.Result.{on_ok_weaker}
 use Rattle.key_sets.specs.declared.part.Part.TheVariants.{Atom}
-use Rattle.erl_tree.specs.Specs.{one_integer}
+use Rattle.erl_runs.specs.Specs.{one_integer}
 use Rattle.erl_tree.specs.declared.type_expr.TypeKind.{the_lemmas}
 use Rattle.cert_checker.specs.FlatTypes.{IsPartOf, AddsPartsOf, is_limited}
 use Rattle.cert_checker.proofs.Lists.{some-inj}

@@ -3,7 +3,7 @@ use mir.Syntax.{w128}
 use Rattle.std.specs.Prelude.{Some}
 use Rattle.std.proofs.lemmas.Int.{ints}
 use Rattle.key_sets.specs.declared.part.Part.TheVariants.{Integers}
-use Rattle.erl_tree.specs.Specs.{one_integer}
+use Rattle.erl_runs.specs.Specs.{one_integer}
 use Rattle.cert_checker.specs.FlatTypes.{IsPartOf}
 use Rattle.cert_checker.proofs.ValueSets.{integer-part}
 use Rattle.cert_checker.proofs.flat_type.one_integer.Goals as goal

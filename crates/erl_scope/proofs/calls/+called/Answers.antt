@@ -1,6 +1,6 @@
 use Rattle.std.proofs.Common.{arith, ap, sym}
 use Rattle.erl_tree.specs.Lists.{Among}
-use Rattle.erl_tree.specs.Readable.{called_in}
+use Rattle.erl_runs.specs.Readable.{called_in}
 use Rattle.function_table.specs.Table.{ids}
 use Rattle.erl_scope.specs.Names.{ExpressionCallsOnly}
 use Rattle.erl_scope.proofs.ForEach.{left_first, left_next, unmet, met}

@@ -1,4 +1,4 @@
-use Rattle.erl_tree.specs.Readable.{CallsOnly}
+use Rattle.erl_runs.specs.Readable.{CallsOnly}
 use Rattle.function_table.specs.Table.{ids}
 use Rattle.erl_scope.proofs.ForEach.{IsLeft}
 use Rattle.erl_scope.proofs.calls.clauses_call_only_defined.Given as goal

@@ -1,5 +1,5 @@
 use Rattle.std.specs.Prelude.{IsSome}
-use Rattle.erl_tree.specs.Specs.{type_term}
+use Rattle.erl_runs.specs.Specs.{type_term}
 use Rattle.erl_scope.proofs.ForEach.{IsLeft}
 use Rattle.erl_scope.proofs.known_types.are_known_types.Given as goal
 

@@ -1,6 +1,6 @@
 use Rattle.std.proofs.Common.{arith, ap, sym}
 use Rattle.erl_tree.specs.Lists.{Among}
-use Rattle.erl_tree.specs.Readable.{bound_by, used_in}
+use Rattle.erl_runs.specs.Readable.{bound_by, used_in}
 use Rattle.erl_scope.specs.Names.{IsScopedExpression}
 use Rattle.erl_scope.proofs.ForEach.{left_first, left_next, unmet, met}
 use Rattle.erl_scope.proofs.Parts.{of_same}

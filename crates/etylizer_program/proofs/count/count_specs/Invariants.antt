@@ -1,5 +1,5 @@
 use Rattle.std.proofs.Common.{◌≡◌, ◌≤◌, length, take}
-use Rattle.erl_tree.specs.Specs.{specs_in}
+use Rattle.erl_runs.specs.Specs.{specs_in}
 use Rattle.etylizer_program.proofs.count.count_specs.Given as goal
 
 abbrev pub invariant-forms : goal.invariant-forms

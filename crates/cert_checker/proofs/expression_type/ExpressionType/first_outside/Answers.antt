@@ -2,7 +2,7 @@ use Rattle.std.proofs.Common.{subst, arith, to_z, of_z, ◌≡◌}
 use mir.Syntax.{w128}
 use Rattle.std.proofs.lemmas.Int.{ints}
 use Rattle.std.proofs.lemmas.Result.{IfOk-weaker}
-use Rattle.erl_tree.specs.Specs.{one_integer}
+use Rattle.erl_runs.specs.Specs.{one_integer}
 use Rattle.cert_checker.specs.FlatTypes.{IsSetOf}
 use Rattle.cert_checker.proofs.Comparisons.{compared, stands-Integers, stands-OneInteger, stands-OneAtom, stands-Parameter, stands-ResultAt}
 use Rattle.cert_checker.proofs.expression_type.ExpressionType.first_outside.Goals as goal

@@ -1,0 +1,13 @@
+pub mod MembershipLaws
+pub mod MembershipStability
+pub mod FiniteMapLaws
+pub mod MapReads
+pub mod Equations
+pub mod AlikeRuns
+pub mod BoundFree
+pub mod SpentSteps
+pub mod MoreSteps
+pub mod MembershipExamples
+pub mod MeaningLaws
+pub mod TypeExamples
+pub mod RunExamples

@@ -1,0 +1,170 @@
+-- The equations of the terms of types, and of the variables, the calls and the runs of expressions: one for each form of a flat module.
+use Rattle.std.proofs.Common.{◌≡◌, refl, ap, sym, ◌∙◌, ℕ, ℤ, suc, List, [], ◌∷◌, ◌++◌, length}
+use Rattle.std.specs.Prelude.{Option, Some, None, neg_ℤ}
+use Rattle.type_terms.specs.Keys.{Name}
+use Rattle.type_terms.specs.declared.term.Term.{Term, AtomLit, Or}
+use Rattle.erl_tree.specs.declared.token.Node.{Node}
+use Rattle.erl_tree.specs.declared.pattern.LiteralKind.{LiteralKind}
+use Rattle.erl_tree.specs.declared.type_expr.TypeKind.{TypeKind, fold-roll-TypeKind}
+use Rattle.erl_tree.specs.declared.type_expr.TypeKind.TheVariants as Y
+use Rattle.erl_tree.specs.declared.type_expr.TypeKind.TheOpen as L
+use Rattle.erl_tree.specs.declared.expr.BinaryOp.{BinaryOp}
+use Rattle.erl_tree.specs.declared.expr.ExprKind.{ExprKind, fold-ExprKind, fold-roll-ExprKind}
+use Rattle.erl_tree.specs.declared.expr.ExprKind.TheVariants as X
+use Rattle.erl_tree.specs.declared.expr.ExprKind.TheOpen as E
+use Rattle.erl_tree.specs.declared.expr.ExprKind.TheShapes as S
+use Rattle.erl_tree.specs.Functions.{FunctionId, of_function}
+use Rattle.erl_runs.specs.Specs.{one_integer, end_of, range, built_in_type, and_then, type_term_layer, type_kind_term, type_term}
+use Rattle.erl_runs.specs.Readable.{together, used_layer, used_in, called_layer, called_in}
+use Rattle.erl_runs.specs.Value.{Value, integer, named_fun, Environment, Run}
+use Rattle.erl_runs.specs.Value as V
+use Rattle.erl_runs.specs.Matching.{variable_value}
+use Rattle.erl_runs.specs.Running.{gives, gives_found, then, Does, Applies, operate, run_all, run_layer, run_kind, run_expression}
+
+-- ---- the terms of types
+
+pub type_kind_term-Atom : (a : Name) → type_kind_term (Y.Atom a) ≡ Some (AtomLit a)
+unfolding type_kind_term
+type_kind_term-Atom a = ap (λ k. type_kind_term k) (sym (Y.rolls-Atom a)) ∙ fold-roll-TypeKind (Option Term) (Unit {0}) type_term_layer (λ part. tt) (L.Atom a)
+
+pub type_kind_term-Int : (n : ℤ) → type_kind_term (Y.Int n) ≡ Some (one_integer n)
+unfolding type_kind_term
+type_kind_term-Int n = ap (λ k. type_kind_term k) (sym (Y.rolls-Int n)) ∙ fold-roll-TypeKind (Option Term) (Unit {0}) type_term_layer (λ part. tt) (L.Int n)
+
+pub type_kind_term-NegInt : (n : ℤ) → type_kind_term (Y.NegInt n) ≡ Some (one_integer (neg_ℤ n))
+unfolding type_kind_term
+type_kind_term-NegInt n = ap (λ k. type_kind_term k) (sym (Y.rolls-NegInt n)) ∙ fold-roll-TypeKind (Option Term) (Unit {0}) type_term_layer (λ part. tt) (L.NegInt n)
+
+pub type_kind_term-Paren : (t : Node TypeKind) → type_kind_term (Y.Paren t) ≡ type_term t
+unfolding type_kind_term
+type_kind_term-Paren t = ap (λ k. type_kind_term k) (sym (Y.rolls-Paren t)) ∙ fold-roll-TypeKind (Option Term) (Unit {0}) type_term_layer (λ part. tt) (L.Paren t)
+
+pub type_kind_term-Or : (t u : Node TypeKind) → type_kind_term (Y.Or t u) ≡ and_then (type_term t) (λ a. and_then (type_term u) (λ b. Some (Or (a ∷ b ∷ []))))
+unfolding type_kind_term
+type_kind_term-Or t u = ap (λ k. type_kind_term k) (sym (Y.rolls-Or t u)) ∙ fold-roll-TypeKind (Option Term) (Unit {0}) type_term_layer (λ part. tt) (L.Or t u)
+
+pub type_kind_term-Range : (low high : Node LiteralKind) → type_kind_term (Y.Range low high) ≡ and_then (end_of low.kind) (λ l. and_then (end_of high.kind) (λ h. range l h))
+unfolding type_kind_term
+type_kind_term-Range low high = ap (λ k. type_kind_term k) (sym (Y.rolls-Range low high)) ∙ fold-roll-TypeKind (Option Term) (Unit {0}) type_term_layer (λ part. tt) (L.Range low high)
+
+pub type_kind_term-Use : (name : Name) → type_kind_term (Y.Use None name []) ≡ built_in_type name
+unfolding type_kind_term
+type_kind_term-Use name = ap (λ k. type_kind_term k) (sym (Y.rolls-Use None name [])) ∙ fold-roll-TypeKind (Option Term) (Unit {0}) type_term_layer (λ part. tt) (L.Use None name [])
+
+pub ruleset type_term_laws = (type_kind_term-Atom, type_kind_term-Int, type_kind_term-NegInt, type_kind_term-Paren, type_kind_term-Or, type_kind_term-Range, type_kind_term-Use)
+
+-- ---- the variables and the calls of expressions
+
+-- what all of some expressions have, in turn
+abbrev pub all_used : List (Node ExprKind) → List Name
+all_used [] = []
+all_used (e ∷ es) = used_in e.kind ++ all_used es
+
+used_args : (es : List (Node ExprKind)) → together (S.former-ExprKind-Tuple-0.map ExprKind (List Name) (fold-ExprKind (List Name) (Unit {0}) (Unit {0}) (Unit {0}) (Unit {0}) (Unit {0}) used_layer (λ i. tt) (λ q. tt) (λ a. tt) (λ c. tt) (λ c. tt)) es) ≡ all_used es
+unfolding used_in
+used_args [] = refl
+used_args (e ∷ es) = ap (λ xs. used_in e.kind ++ xs) (used_args es)
+
+pub used_in-Int : (n : ℤ) → used_in (X.Int n) ≡ []
+unfolding used_in
+used_in-Int n = ap (λ k. used_in k) (sym (X.rolls-Int n)) ∙ fold-roll-ExprKind (List Name) (Unit {0}) (Unit {0}) (Unit {0}) (Unit {0}) (Unit {0}) used_layer (λ i. tt) (λ q. tt) (λ a. tt) (λ c. tt) (λ c. tt) (E.Int n)
+
+pub used_in-Atom : (a : Name) → used_in (X.Atom a) ≡ []
+unfolding used_in
+used_in-Atom a = ap (λ k. used_in k) (sym (X.rolls-Atom a)) ∙ fold-roll-ExprKind (List Name) (Unit {0}) (Unit {0}) (Unit {0}) (Unit {0}) (Unit {0}) used_layer (λ i. tt) (λ q. tt) (λ a. tt) (λ c. tt) (λ c. tt) (E.Atom a)
+
+pub used_in-Var : (x : Name) → used_in (X.Var x) ≡ x ∷ []
+unfolding used_in
+used_in-Var x = ap (λ k. used_in k) (sym (X.rolls-Var x)) ∙ fold-roll-ExprKind (List Name) (Unit {0}) (Unit {0}) (Unit {0}) (Unit {0}) (Unit {0}) used_layer (λ i. tt) (λ q. tt) (λ a. tt) (λ c. tt) (λ c. tt) (E.Var x)
+
+pub used_in-Paren : (e : Node ExprKind) → used_in (X.Paren e) ≡ used_in e.kind
+unfolding used_in
+used_in-Paren e = ap (λ k. used_in k) (sym (X.rolls-Paren e)) ∙ fold-roll-ExprKind (List Name) (Unit {0}) (Unit {0}) (Unit {0}) (Unit {0}) (Unit {0}) used_layer (λ i. tt) (λ q. tt) (λ a. tt) (λ c. tt) (λ c. tt) (E.Paren e)
+
+pub used_in-Binary : (op : BinaryOp) (a b : Node ExprKind) → used_in (X.Binary op a b) ≡ used_in a.kind ++ used_in b.kind
+unfolding used_in
+used_in-Binary op a b = ap (λ k. used_in k) (sym (X.rolls-Binary op a b)) ∙ fold-roll-ExprKind (List Name) (Unit {0}) (Unit {0}) (Unit {0}) (Unit {0}) (Unit {0}) used_layer (λ i. tt) (λ q. tt) (λ a. tt) (λ c. tt) (λ c. tt) (E.Binary op a b)
+
+pub used_in-Call : (name : Name) (args : List (Node ExprKind)) → used_in (X.Call None name args) ≡ all_used args
+unfolding used_in
+used_in-Call name args = ap (λ k. used_in k) (sym (X.rolls-Call None name args)) ∙ (fold-roll-ExprKind (List Name) (Unit {0}) (Unit {0}) (Unit {0}) (Unit {0}) (Unit {0}) used_layer (λ i. tt) (λ q. tt) (λ a. tt) (λ c. tt) (λ c. tt) (E.Call None name args) ∙ used_args args)
+
+-- what all of some expressions have, in turn
+abbrev pub all_called : List (Node ExprKind) → List FunctionId
+all_called [] = []
+all_called (e ∷ es) = called_in e.kind ++ all_called es
+
+called_args : (es : List (Node ExprKind)) → together (S.former-ExprKind-Tuple-0.map ExprKind (List FunctionId) (fold-ExprKind (List FunctionId) (Unit {0}) (Unit {0}) (Unit {0}) (Unit {0}) (Unit {0}) called_layer (λ i. tt) (λ q. tt) (λ a. tt) (λ c. tt) (λ c. tt)) es) ≡ all_called es
+unfolding called_in
+called_args [] = refl
+called_args (e ∷ es) = ap (λ xs. called_in e.kind ++ xs) (called_args es)
+
+arg_count : (es : List (Node ExprKind)) → length (S.former-ExprKind-Tuple-0.map ExprKind (List FunctionId) (fold-ExprKind (List FunctionId) (Unit {0}) (Unit {0}) (Unit {0}) (Unit {0}) (Unit {0}) called_layer (λ i. tt) (λ q. tt) (λ a. tt) (λ c. tt) (λ c. tt)) es) ≡ length es
+arg_count [] = refl
+arg_count (e ∷ es) = ap suc (arg_count es)
+
+pub called_in-Int : (n : ℤ) → called_in (X.Int n) ≡ []
+unfolding called_in
+called_in-Int n = ap (λ k. called_in k) (sym (X.rolls-Int n)) ∙ fold-roll-ExprKind (List FunctionId) (Unit {0}) (Unit {0}) (Unit {0}) (Unit {0}) (Unit {0}) called_layer (λ i. tt) (λ q. tt) (λ a. tt) (λ c. tt) (λ c. tt) (E.Int n)
+
+pub called_in-Atom : (a : Name) → called_in (X.Atom a) ≡ []
+unfolding called_in
+called_in-Atom a = ap (λ k. called_in k) (sym (X.rolls-Atom a)) ∙ fold-roll-ExprKind (List FunctionId) (Unit {0}) (Unit {0}) (Unit {0}) (Unit {0}) (Unit {0}) called_layer (λ i. tt) (λ q. tt) (λ a. tt) (λ c. tt) (λ c. tt) (E.Atom a)
+
+pub called_in-Var : (x : Name) → called_in (X.Var x) ≡ []
+unfolding called_in
+called_in-Var x = ap (λ k. called_in k) (sym (X.rolls-Var x)) ∙ fold-roll-ExprKind (List FunctionId) (Unit {0}) (Unit {0}) (Unit {0}) (Unit {0}) (Unit {0}) called_layer (λ i. tt) (λ q. tt) (λ a. tt) (λ c. tt) (λ c. tt) (E.Var x)
+
+pub called_in-Paren : (e : Node ExprKind) → called_in (X.Paren e) ≡ called_in e.kind
+unfolding called_in
+called_in-Paren e = ap (λ k. called_in k) (sym (X.rolls-Paren e)) ∙ fold-roll-ExprKind (List FunctionId) (Unit {0}) (Unit {0}) (Unit {0}) (Unit {0}) (Unit {0}) called_layer (λ i. tt) (λ q. tt) (λ a. tt) (λ c. tt) (λ c. tt) (E.Paren e)
+
+pub called_in-Binary : (op : BinaryOp) (a b : Node ExprKind) → called_in (X.Binary op a b) ≡ called_in a.kind ++ called_in b.kind
+unfolding called_in
+called_in-Binary op a b = ap (λ k. called_in k) (sym (X.rolls-Binary op a b)) ∙ fold-roll-ExprKind (List FunctionId) (Unit {0}) (Unit {0}) (Unit {0}) (Unit {0}) (Unit {0}) called_layer (λ i. tt) (λ q. tt) (λ a. tt) (λ c. tt) (λ c. tt) (E.Binary op a b)
+
+pub called_in-Call : (name : Name) (args : List (Node ExprKind)) → called_in (X.Call None name args) ≡ of_function name (length args) ∷ all_called args
+unfolding called_in
+called_in-Call name args = ap (λ k. called_in k) (sym (X.rolls-Call None name args)) ∙ (fold-roll-ExprKind (List FunctionId) (Unit {0}) (Unit {0}) (Unit {0}) (Unit {0}) (Unit {0}) called_layer (λ i. tt) (λ q. tt) (λ a. tt) (λ c. tt) (λ c. tt) (E.Call None name args) ∙ ap (λ n. of_function name n ∷ together (S.former-ExprKind-Tuple-0.map ExprKind (List FunctionId) (fold-ExprKind (List FunctionId) (Unit {0}) (Unit {0}) (Unit {0}) (Unit {0}) (Unit {0}) called_layer (λ i. tt) (λ q. tt) (λ a. tt) (λ c. tt) (λ c. tt)) args)) (arg_count args) ∙ ap (λ xs. of_function name (length args) ∷ xs) (called_args args))
+
+pub ruleset used_laws = (used_in-Int, used_in-Atom, used_in-Var, used_in-Paren, used_in-Binary, used_in-Call)
+
+pub ruleset called_laws = (called_in-Int, called_in-Atom, called_in-Var, called_in-Paren, called_in-Binary, called_in-Call)
+
+-- ---- runs of expressions
+
+-- expressions in turn, from left to right
+abbrev pub run_args : Applies → List (Node ExprKind) → Environment → ℕ → Run (List Value)
+run_args apply [] environment steps = gives [] steps
+run_args apply (e ∷ es) environment steps = then (run_expression apply e environment steps) (λ v left. then (run_args apply es environment left) (λ vs rest. gives (v ∷ vs) rest))
+
+run_each : (apply : Applies) (es : List (Node ExprKind)) → run_all (S.former-ExprKind-Tuple-0.map ExprKind Does (fold-ExprKind Does (Unit {0}) (Unit {0}) (Unit {0}) (Unit {0}) (Unit {0}) (run_layer apply) (λ i. tt) (λ q. tt) (λ a. tt) (λ c. tt) (λ c. tt)) es) ≡ run_args apply es
+unfolding run_kind
+run_each apply [] = refl
+run_each apply (e ∷ es) = ap (λ (r : Environment → ℕ → Run (List Value)). λ environment steps. then (run_expression apply e environment steps) (λ v left. then (r environment left) (λ vs rest. gives (v ∷ vs) rest))) (run_each apply es)
+
+pub run_kind-Int : (apply : Applies) (n : ℤ) (environment : Environment) (steps : ℕ) → run_kind apply (X.Int n) environment steps ≡ gives (integer n) steps
+unfolding run_kind
+run_kind-Int apply n environment steps = ap (λ k. run_kind apply k environment steps) (sym (X.rolls-Int n)) ∙ ap (λ (f : Does). f environment steps) (fold-roll-ExprKind Does (Unit {0}) (Unit {0}) (Unit {0}) (Unit {0}) (Unit {0}) (run_layer apply) (λ i. tt) (λ q. tt) (λ a. tt) (λ c. tt) (λ c. tt) (E.Int n))
+
+pub run_kind-Atom : (apply : Applies) (a : Name) (environment : Environment) (steps : ℕ) → run_kind apply (X.Atom a) environment steps ≡ gives (V.atom a) steps
+unfolding run_kind
+run_kind-Atom apply a environment steps = ap (λ k. run_kind apply k environment steps) (sym (X.rolls-Atom a)) ∙ ap (λ (f : Does). f environment steps) (fold-roll-ExprKind Does (Unit {0}) (Unit {0}) (Unit {0}) (Unit {0}) (Unit {0}) (run_layer apply) (λ i. tt) (λ q. tt) (λ a. tt) (λ c. tt) (λ c. tt) (E.Atom a))
+
+pub run_kind-Var : (apply : Applies) (x : Name) (environment : Environment) (steps : ℕ) → run_kind apply (X.Var x) environment steps ≡ gives_found (variable_value environment x) steps
+unfolding run_kind
+run_kind-Var apply x environment steps = ap (λ k. run_kind apply k environment steps) (sym (X.rolls-Var x)) ∙ ap (λ (f : Does). f environment steps) (fold-roll-ExprKind Does (Unit {0}) (Unit {0}) (Unit {0}) (Unit {0}) (Unit {0}) (run_layer apply) (λ i. tt) (λ q. tt) (λ a. tt) (λ c. tt) (λ c. tt) (E.Var x))
+
+pub run_kind-Paren : (apply : Applies) (e : Node ExprKind) (environment : Environment) (steps : ℕ) → run_kind apply (X.Paren e) environment steps ≡ run_expression apply e environment steps
+unfolding run_kind
+run_kind-Paren apply e environment steps = ap (λ k. run_kind apply k environment steps) (sym (X.rolls-Paren e)) ∙ ap (λ (f : Does). f environment steps) (fold-roll-ExprKind Does (Unit {0}) (Unit {0}) (Unit {0}) (Unit {0}) (Unit {0}) (run_layer apply) (λ i. tt) (λ q. tt) (λ a. tt) (λ c. tt) (λ c. tt) (E.Paren e))
+
+pub run_kind-Binary : (apply : Applies) (op : BinaryOp) (a b : Node ExprKind) (environment : Environment) (steps : ℕ) → run_kind apply (X.Binary op a b) environment steps ≡ then (run_expression apply a environment steps) (λ v left. then (run_expression apply b environment left) (λ w rest. operate op v w rest))
+unfolding run_kind
+run_kind-Binary apply op a b environment steps = ap (λ k. run_kind apply k environment steps) (sym (X.rolls-Binary op a b)) ∙ ap (λ (f : Does). f environment steps) (fold-roll-ExprKind Does (Unit {0}) (Unit {0}) (Unit {0}) (Unit {0}) (Unit {0}) (run_layer apply) (λ i. tt) (λ q. tt) (λ a. tt) (λ c. tt) (λ c. tt) (E.Binary op a b))
+
+pub run_kind-Call : (apply : Applies) (name : Name) (args : List (Node ExprKind)) (environment : Environment) (steps : ℕ) → run_kind apply (X.Call None name args) environment steps ≡ then (run_args apply args environment steps) (λ vs left. apply (named_fun name (length vs)) vs left)
+unfolding run_kind
+run_kind-Call apply name args environment steps = ap (λ k. run_kind apply k environment steps) (sym (X.rolls-Call None name args)) ∙ (ap (λ (f : Does). f environment steps) (fold-roll-ExprKind Does (Unit {0}) (Unit {0}) (Unit {0}) (Unit {0}) (Unit {0}) (run_layer apply) (λ i. tt) (λ q. tt) (λ a. tt) (λ c. tt) (λ c. tt) (E.Call None name args)) ∙ ap (λ (r : Environment → ℕ → Run (List Value)). then (r environment steps) (λ vs left. apply (named_fun name (length vs)) vs left)) (run_each apply args))
+
+pub ruleset run_laws = (run_kind-Int, run_kind-Atom, run_kind-Var, run_kind-Paren, run_kind-Binary, run_kind-Call)

@@ -1,0 +1,9 @@
+pub mod Specs
+pub mod Readable
+pub mod Value
+pub mod FiniteMaps
+pub mod Membership
+pub mod Matching
+pub mod Running
+pub mod Safety
+pub mod SmallPrograms

@@ -1,0 +1,145 @@
+-- When names are used rightly in a module (Erlang Reference Manual, "Expressions" on variables, "Functions", and "Types and Function Specifications"), in its part on flat modules. It is said of modules that are well formed.
+use Rattle.std.specs.Prelude.{◌≡◌, List, [], ◌∷◌, ◌++◌, map, length, Bool, false, Some, None, nat_eq, ◌&&◌, if◌then◌else◌, codes}
+use Rattle.std.specs.List.{list_any}
+use Rattle.std.specs.Str.{bytes_eq}
+use Rattle.type_terms.specs.Keys.{Name, same_name}
+use Rattle.erl_tree.specs.Lists.{Every, Among, AreDistinct}
+use Rattle.erl_tree.specs.declared.token.Node.{Node}
+use Rattle.erl_tree.specs.declared.pattern.PatternKind.{PatternKind, out-PatternKind}
+use Rattle.erl_tree.specs.declared.pattern.PatternKind.TheOpen as P
+use Rattle.erl_tree.specs.declared.expr.ExprKind.{ExprKind, fold-ExprKind}
+use Rattle.erl_tree.specs.declared.expr.ItemKind.{ItemKind, out-ItemKind}
+use Rattle.erl_tree.specs.declared.expr.ClauseKind.{ClauseKind, out-ClauseKind}
+use Rattle.erl_tree.specs.declared.expr.QualifierKind.{QualifierKind}
+use Rattle.erl_tree.specs.declared.expr.AssocKind.{AssocKind}
+use Rattle.erl_tree.specs.declared.expr.CatchKind.{CatchKind}
+use Rattle.erl_tree.specs.declared.expr.ExprKind.TheOpen as E
+use Rattle.erl_tree.specs.declared.form.Function.{Function}
+use Rattle.erl_tree.specs.declared.form.Module.{Module}
+use Rattle.erl_tree.specs.Functions.{FunctionId, of_function, functions_of, function_ids}
+use Rattle.erl_runs.specs.Specs.{read_specs, specs_of, spec_id}
+use Rattle.erl_tree.specs.Grammar.{IsWellFormed}
+use Rattle.erl_tree.specs.Limits.{IsShallow, HasIntegersInLimit}
+
+-- ---- variables
+
+-- the variable `_`
+abbrev pub is_wildcard : Name → Bool
+is_wildcard x = bytes_eq x (codes "_")
+
+-- what one level of a pattern binds: a variable that isn't the wildcard
+abbrev pub bound_layer : P.PatternKind-F PatternKind → List Name
+bound_layer (P.Var x) = if is_wildcard x then [] else x ∷ []
+bound_layer _ = []
+
+-- the variables that patterns bind, in text order; the wildcard binds nothing
+abbrev pub bound_by : List (Node PatternKind) → List Name
+bound_by [] = []
+bound_by (p ∷ ps) = bound_layer (out-PatternKind p.kind) ++ bound_by ps
+
+-- what all of some nodes have, one after the other
+abbrev pub together : {A : Type 0} → List (Node (List A)) → List A
+together [] = []
+together (n ∷ ns) = n.kind ++ together ns
+
+-- the variables of one level of an expression, whose parts have these
+abbrev pub used_layer : E.ExprKind-F (List Name) (Unit {0}) (Unit {0}) (Unit {0}) (Unit {0}) (Unit {0}) → List Name
+used_layer (E.Var x) = x ∷ []
+used_layer (E.Paren e) = e.kind
+used_layer (E.Binary op a b) = a.kind ++ b.kind
+used_layer (E.Call prefix name args) = together args
+used_layer _ = []
+
+-- the variables that an expression uses, in text order
+unfoldable pub used_in : ExprKind → List Name
+used_in e = fold-ExprKind (List Name) (Unit {0}) (Unit {0}) (Unit {0}) (Unit {0}) (Unit {0}) used_layer (λ i. tt) (λ q. tt) (λ a. tt) (λ c. tt) (λ c. tt) e
+
+-- the variables of an element of a body
+abbrev pub used_item_layer : E.ItemKind-F ExprKind ItemKind QualifierKind AssocKind CatchKind ClauseKind → List Name
+used_item_layer (E.Value e) = used_in e.kind
+used_item_layer _ = []
+
+-- the variables that a body uses
+abbrev pub used_by : List (Node ItemKind) → List Name
+used_by [] = []
+used_by (i ∷ is) = used_item_layer (out-ItemKind i.kind) ++ used_by is
+
+-- each variable that is used is bound in the clause's head
+abbrev pub IsScopedClause : Node ClauseKind → Type 0
+IsScopedClause c = Every (λ x. Among x (bound_by (out-ClauseKind c.kind).patterns)) (used_by (out-ClauseKind c.kind).body)
+
+-- the same of each clause
+abbrev pub IsScoped : Function → Type 0
+IsScoped f = Every IsScopedClause f.clauses
+
+-- ---- calls
+
+-- the functions that one level of an expression calls by name, whose parts call these
+abbrev pub called_layer : E.ExprKind-F (List FunctionId) (Unit {0}) (Unit {0}) (Unit {0}) (Unit {0}) (Unit {0}) → List FunctionId
+called_layer (E.Paren e) = e.kind
+called_layer (E.Binary op a b) = a.kind ++ b.kind
+called_layer (E.Call None name args) = of_function name (length args) ∷ together args
+called_layer _ = []
+
+-- the functions that an expression calls, in text order
+unfoldable pub called_in : ExprKind → List FunctionId
+called_in e = fold-ExprKind (List FunctionId) (Unit {0}) (Unit {0}) (Unit {0}) (Unit {0}) (Unit {0}) called_layer (λ i. tt) (λ q. tt) (λ a. tt) (λ c. tt) (λ c. tt) e
+
+-- the functions that an element of a body calls
+abbrev pub called_item_layer : E.ItemKind-F ExprKind ItemKind QualifierKind AssocKind CatchKind ClauseKind → List FunctionId
+called_item_layer (E.Value e) = called_in e.kind
+called_item_layer _ = []
+
+-- each call in a clause is of one of these functions
+abbrev pub CallsOnly : List FunctionId → Node ClauseKind → Type 0
+CallsOnly ids c = Every (λ i. Every (λ id. Among id ids) (called_item_layer (out-ItemKind i.kind))) (out-ClauseKind c.kind).body
+
+-- the same of each clause of a function
+abbrev pub FunctionCallsOnly : List FunctionId → Function → Type 0
+FunctionCallsOnly ids f = Every (CallsOnly ids) f.clauses
+
+-- ---- functions and specs
+
+-- the built-in functions, which no module defines anew
+abbrev pub built_ins : List FunctionId
+built_ins = of_function (codes "is_atom") 1 ∷ of_function (codes "is_boolean") 1 ∷ of_function (codes "is_integer") 1 ∷ of_function (codes "is_list") 1 ∷ of_function (codes "is_map") 1 ∷ of_function (codes "is_tuple") 1
+    ∷ of_function (codes "is_function") 1 ∷ of_function (codes "is_function") 2 ∷ of_function (codes "hd") 1 ∷ of_function (codes "tl") 1 ∷ of_function (codes "length") 1 ∷ of_function (codes "tuple_size") 1
+    ∷ of_function (codes "map_size") 1 ∷ of_function (codes "abs") 1 ∷ of_function (codes "error") 1 ∷ of_function (codes "throw") 1 ∷ of_function (codes "exit") 1 ∷ []
+
+-- whether names and arities agree
+abbrev pub same_id : FunctionId → FunctionId → Bool
+same_id f g = same_name f.name g.name && nat_eq f.arity g.arity
+
+-- whether a function is built in
+abbrev pub is_built_in : FunctionId → Bool
+is_built_in id = list_any (same_id id) built_ins
+
+-- names are used rightly: every spec has terms; no function is defined twice or is built in; each function has one spec, and each spec a function; each variable that is used is bound; each function that is called is one of the module or built in
+pub record IsReadable (m : Module) : Type 0 where
+  pub specs_read : read_specs m ≡ Some (specs_of m)
+  pub functions_distinct : AreDistinct (function_ids m)
+  pub not_built_in : Every (λ id. is_built_in id ≡ false) (function_ids m)
+  pub specs_distinct : AreDistinct (map spec_id (specs_of m))
+  pub specified : Every (λ id. Among id (map spec_id (specs_of m))) (function_ids m)
+  pub defined : Every (λ id. Among id (function_ids m)) (map spec_id (specs_of m))
+  pub scoped : Every IsScoped (functions_of m)
+  pub calls_defined : Every (FunctionCallsOnly (function_ids m ++ built_ins)) (functions_of m)
+
+-- ---- flat modules
+
+-- the variables of a head are distinct
+abbrev pub HasDistinctHead : Node ClauseKind → Type 0
+HasDistinctHead c = AreDistinct (bound_by (out-ClauseKind c.kind).patterns)
+
+-- the same of each clause
+abbrev pub HasDistinctHeads : Function → Type 0
+HasDistinctHeads f = Every HasDistinctHead f.clauses
+
+-- a flat module: well formed in the part of the grammar that is written so far, readable, with distinct variables in each head, calls of its own functions alone, nested at most 256 levels deep, and with integers within the limit
+pub record IsFlatModule (m : Module) : Type 0 where
+  pub well_formed : IsWellFormed m
+  pub readable : IsReadable m
+  pub distinct_heads : Every HasDistinctHeads (functions_of m)
+  pub own_calls : Every (FunctionCallsOnly (function_ids m)) (functions_of m)
+  pub shallow : IsShallow m
+  pub in_limit : HasIntegersInLimit m

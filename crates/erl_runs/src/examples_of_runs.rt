@@ -1,0 +1,23 @@
+//! Small runs, each the contract of a function that does nothing.
+
+ghost use Rattle.std.specs.Prelude.{◌≡◌, ℕ, pos, [], ◌∷◌, codes};
+ghost use Rattle.erl_tree.specs.Grammar.{IsFunction};
+ghost use Rattle.erl_runs.specs.Running.{Applies, gives, goes_wrong, run_expression, apply};
+ghost use Rattle.erl_runs.specs.SmallPrograms.{one, endless_code};
+ghost use Rattle.erl_tree.specs.SmallTrees.{one_and_two, one_and_atom, calls_itself};
+ghost use Rattle.erl_runs.specs.Value.{Environment, integer, named_fun, going};
+
+/// `1+2` gives 3, and `1+a` goes wrong, in every environment and with the steps left as they were.
+pub fn sums()
+    ensures integers { (applies : Applies) (environment : Environment) (steps : ℕ) →
+        run_expression applies one_and_two environment steps ≡ gives (integer (pos 3)) steps }
+    ensures no_integer { (applies : Applies) (environment : Environment) (steps : ℕ) →
+        run_expression applies one_and_atom environment steps ≡ goes_wrong steps }
+{}
+
+/// `f(X)->f(X).` is well formed. Where it is the function f, a run of f(1) is still going after any
+/// number of steps.
+pub fn an_endless_run()
+    ensures formed { IsFunction calls_itself }
+    ensures endless { (steps : ℕ) → (apply endless_code (named_fun (codes "f") 1) (one ∷ []) steps).outcome ≡ going }
+{}

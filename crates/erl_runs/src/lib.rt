@@ -1,0 +1,8 @@
+//! What a module does when it runs, what is in a type, and when a module is safe: definitions, with
+//! their laws and small examples.
+#![tactic(auto)]
+
+pub mod examples;
+pub mod examples_of_runs;
+pub mod examples_of_types;
+pub mod laws;

@@ -1,5 +1,0 @@
-use Rattle.type_terms.proofs.SmallCases.{integers-instance}
-use Rattle.erl_tree.proofs.examples.variables.Goals as goal
-
-pub returns-clause-instance : goal.returns-clause-instance
-returns-clause-instance c = integers-instance 0
