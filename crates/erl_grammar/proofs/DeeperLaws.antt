@@ -42,16 +42,16 @@ among_both x (y ∷ xs) ys us vs f g (inr h) = among_both x xs ys us vs (λ a. f
 
 -- ---- parts
 
-falls_as : {f g : Deep} → ((levels : ℕ) → g levels ≡ f levels) → Falls f → Falls g
+pub falls_as : {f g : Deep} → ((levels : ℕ) → g levels ≡ f levels) → Falls f → Falls g
 falls_as {f = f} {g = g} e h = record { falls = λ levels p a. subst (Among p) (sym (e levels)) (h.falls levels p (subst (Among p) (e (suc levels)) a)) }
 
-none_falls : Falls (λ levels. [])
+pub none_falls : Falls (λ levels. [])
 none_falls = record { falls = λ levels p a. a }
 
-both_falls : {f g : Deep} → Falls f → Falls g → Falls (λ levels. f levels ++ g levels)
+pub both_falls : {f g : Deep} → Falls f → Falls g → Falls (λ levels. f levels ++ g levels)
 both_falls {f = f} {g = g} h k = record { falls = λ levels p a. among_both p (f (suc levels)) (g (suc levels)) (f levels) (g levels) (h.falls levels p) (k.falls levels p) a }
 
-node_falls : (n : Node Deep) → Falls n.kind → Falls (deep_node n)
+pub node_falls : (n : Node Deep) → Falls n.kind → Falls (deep_node n)
 node_falls n h = record { falls = by }
   where
     by : (levels : ℕ) (p : Place) → Among p (deep_node n (suc levels)) → Among p (deep_node n levels)
@@ -70,25 +70,25 @@ fewer_falls {f = f} h = record { falls = by }
     by (suc levels) p a = h.falls levels p a
 
 -- a kind of which this is true
-abbrev Part : {A : Type 0} → (A → Deep) → Type 0
+abbrev pub Part : {A : Type 0} → (A → Deep) → Type 0
 Part {A} say = (a : A) × Falls (say a)
 
 -- the kinds without it
-abbrev bare : {A : Type 0} (say : A → Deep) → Part say → A
+abbrev pub bare : {A : Type 0} (say : A → Deep) → Part say → A
 bare say e = e.0
 
 module _ {A : Type 0} (say : A → Deep) where
-  abbrev said_list : List (Node (Part say)) → List (Node Deep)
+  abbrev pub said_list : List (Node (Part say)) → List (Node Deep)
   said_list ns = S.former-ExprKind-Tuple-0.map A Deep say (S.former-ExprKind-Tuple-0.map (Part say) A (bare say) ns)
 
   abbrev said_tail : Option (Node (Part say)) → Option (Node Deep)
   said_tail o = S.former-ExprKind-Cells-1.map A Deep say (S.former-ExprKind-Cells-1.map (Part say) A (bare say) o)
 
-  all_nodes_fall : (ns : List (Node (Part say))) → Falls (deep_all deep_node (said_list ns))
+  pub all_nodes_fall : (ns : List (Node (Part say))) → Falls (deep_all deep_node (said_list ns))
   all_nodes_fall [] = none_falls
   all_nodes_fall (n ∷ ns) = both_falls (node_falls (node n.place n.marks (say n.kind.0)) n.kind.1) (all_nodes_fall ns)
 
-  all_parts_fall : (ns : List (Node (Part say))) → Falls (deep_all deep_part (said_list ns))
+  pub all_parts_fall : (ns : List (Node (Part say))) → Falls (deep_all deep_part (said_list ns))
   all_parts_fall [] = none_falls
   all_parts_fall (n ∷ ns) = both_falls n.kind.1 (all_parts_fall ns)
 
@@ -96,7 +96,7 @@ module _ {A : Type 0} (say : A → Deep) where
   all_entries_fall [] = none_falls
   all_entries_fall (n ∷ ns) = both_falls (node_falls (node n.kind.1.place n.kind.1.marks (say n.kind.1.kind.0)) n.kind.1.kind.1) (all_entries_fall ns)
 
-  all_fields_fall : (ns : List (Node (List ℕ × Node (Part say)))) → Falls (deep_all (deep_second deep_node) (S.former-ExprKind-RecNew-2.map A Deep say (S.former-ExprKind-RecNew-2.map (Part say) A (bare say) ns)))
+  pub all_fields_fall : (ns : List (Node (List ℕ × Node (Part say)))) → Falls (deep_all (deep_second deep_node) (S.former-ExprKind-RecNew-2.map A Deep say (S.former-ExprKind-RecNew-2.map (Part say) A (bare say) ns)))
   all_fields_fall [] = none_falls
   all_fields_fall (n ∷ ns) = both_falls (node_falls (node n.kind.1.place n.kind.1.marks (say n.kind.1.kind.0)) n.kind.1.kind.1) (all_fields_fall ns)
 

@@ -28,31 +28,31 @@ pub record Bounded (f : Deep) : Type 0 where
   pub bound : ℕ
   pub empty : (levels : ℕ) → bound ≤ levels → f levels ≡ []
 
-bounded_as : {f g : Deep} → ((levels : ℕ) → f levels ≡ g levels) → Bounded g → Bounded f
+pub bounded_as : {f g : Deep} → ((levels : ℕ) → f levels ≡ g levels) → Bounded g → Bounded f
 bounded_as e b = record { bound = b.bound; empty = λ levels l. e levels ∙ b.empty levels l }
 
-bounded_none : Bounded (λ levels. [])
+pub bounded_none : Bounded (λ levels. [])
 bounded_none = record { bound = 0; empty = λ levels l. refl }
 
 nothing_joined : {xs ys : List Place} → xs ≡ [] → ys ≡ [] → xs ++ ys ≡ []
 nothing_joined e f = rw (e, f) refl
 
-bounded_both : {f g : Deep} → Bounded f → Bounded g → Bounded (λ levels. f levels ++ g levels)
+pub bounded_both : {f g : Deep} → Bounded f → Bounded g → Bounded (λ levels. f levels ++ g levels)
 bounded_both b c = record { bound = b.bound + c.bound; empty = λ levels l. nothing_joined (b.empty levels (omega arith)) (c.empty levels (omega arith)) }
 
 -- a node, of whose kind it is known
-bounded_node : {f : Deep} (p : Place) (ms : List Place) → Bounded f → Bounded (deep_node (record { place = p; marks = ms; kind = f }))
+pub bounded_node : {f : Deep} (p : Place) (ms : List Place) → Bounded f → Bounded (deep_node (record { place = p; marks = ms; kind = f }))
 bounded_node {f} p ms b = record { bound = suc b.bound; empty = by }
   where
     by : (levels : ℕ) → suc b.bound ≤ levels → deep_node (record { place = p; marks = ms; kind = f }) levels ≡ []
     by zero l = absurd (omega arith)
     by (suc levels) l = b.empty levels (omega arith)
 
-bounded_all : {A : Type 0} (deep : A → Deep) (xs : List A) → ((x : A) → Among x xs → Bounded (deep x)) → Bounded (deep_all deep xs)
+pub bounded_all : {A : Type 0} (deep : A → Deep) (xs : List A) → ((x : A) → Among x xs → Bounded (deep x)) → Bounded (deep_all deep xs)
 bounded_all deep [] h = bounded_none
 bounded_all deep (x ∷ xs) h = bounded_both (h x (inl refl)) (bounded_all deep xs (λ y i. h y (inr i)))
 
-bounded_optional : {A : Type 0} (deep : A → Deep) (x : Option A) → ((y : A) → x ≡ Some y → Bounded (deep y)) → Bounded (deep_optional deep x)
+pub bounded_optional : {A : Type 0} (deep : A → Deep) (x : Option A) → ((y : A) → x ≡ Some y → Bounded (deep y)) → Bounded (deep_optional deep x)
 bounded_optional deep None h = bounded_none
 bounded_optional deep (Some x) h = h x refl
 
@@ -166,7 +166,7 @@ mutual
       (bounded_both (bounded_all catch_deep catches (λ y n. catch_bounded (q y n)))
       (after_bounded after (λ y n. item_bounded (t y n))))))
 
-  item_bounded : {i : Node ItemKind} → IsItem i → Bounded (item_deep i)
+  pub item_bounded : {i : Node ItemKind} → IsItem i → Bounded (item_deep i)
   item_bounded (G.value e h) = bounded_as (N.item_kind_deep-Value e) (expr_up e (expr_in h))
   item_bounded (G.match_item p e m h k) = bounded_as (N.item_kind_deep-Match p e) (bounded_both (pattern_bounded h) (expr_up e (expr_in k)))
 
@@ -184,7 +184,7 @@ mutual
   guard_bounded : {g : Node (List (List (Node ExprKind)))} → IsGuard g → Bounded (deep_guard expr_deep g)
   guard_bounded (G.guard ms t ts alternatives n g h k) = bounded_alternatives ((t ∷ ts) ∷ alternatives) (λ e i. expr_up e (expr_in (h e i)))
 
-  when_bounded : {w : Option (Node (List (List (Node ExprKind))))} {ms : List Place} → IsWhen w ms → Bounded (deep_optional (deep_guard expr_deep) w)
+  pub when_bounded : {w : Option (Node (List (List (Node ExprKind))))} {ms : List Place} → IsWhen w ms → Bounded (deep_optional (deep_guard expr_deep) w)
   when_bounded G.no_guard = bounded_none
   when_bounded (G.when_guard w g h) = guard_bounded h
 

@@ -7,3 +7,16 @@ pub mod TreeExamples
 pub mod DepthLaws
 pub mod PlaceLaws
 pub mod MarkLaws
+pub mod TypeSpellingLaws
+pub mod TypeNestingLaws
+pub mod TypeDeeperLaws
+pub mod FormSpellingLaws
+pub mod TypePlaceLaws
+pub mod TypeMarkLaws
+pub mod TypeDepthLaws
+pub mod FormPlaceLaws
+pub mod FormMarkLaws
+pub mod FormDepthLaws
+pub mod TypeLayers
+pub mod TypeExamples
+pub mod FormExamples

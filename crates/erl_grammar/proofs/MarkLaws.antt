@@ -1,5 +1,6 @@
 -- A well-formed node has as many marks as tokens of its own.
-use Rattle.std.proofs.Common.{◌≡◌, ℕ, suc, List, [], ◌∷◌, ◌++◌, refl, ap, map, length}
+use Rattle.std.proofs.Common.{◌≡◌, ℕ, suc, List, [], ◌∷◌, ◌++◌, refl, ap, ◌∙◌, map, length, arith}
+use Rattle.std.proofs.lemmas.List.{append_assoc}
 use Rattle.std.specs.Prelude.{Option, Some, None, Bool, true, false, codes}
 use Rattle.type_terms.specs.Keys.{Name}
 use Rattle.erl_tree.specs.declared.token.Place.{Place}
@@ -17,27 +18,43 @@ use Rattle.erl_tree.specs.declared.expr.QualifierKind.{QualifierKind}
 use Rattle.erl_tree.specs.declared.expr.AssocKind.{AssocKind}
 use Rattle.erl_tree.specs.declared.expr.CatchKind.{CatchKind}
 use Rattle.erl_grammar.specs.declared.head.Head.{Head}
-use Rattle.erl_grammar.specs.Pieces.{Piece, own, inner, fill, mark, word, name, separated, commas, semicolons, between, owned, HasMarkEach}
+use Rattle.erl_grammar.specs.Pieces.{Piece, own, inner, fill, mark, word, name, separated, commas, semicolons, between, owned, HasMarks, HasMarkEach}
 use Rattle.erl_grammar.specs.Operators.{unary_token, operator_token}
 use Rattle.erl_grammar.specs.Spelling.{literal_tokens, association_text, optional_guard, when_pieces, body_pieces, expr_guard_tokens, tail_pieces, map_pieces, record_pieces, prefix_pieces, argument_pieces, pattern_tokens, pattern_entry_tokens, pattern_field_tokens, of_pieces, catch_pieces, after_pieces, expr_tokens, item_tokens, qualifier_tokens, assoc_tokens, catch_tokens, case_clause_tokens, if_clause_tokens, fun_clause_tokens, expr_field_tokens}
 use Rattle.erl_grammar.specs.Grammar.{node, AreSeparators, HavePartMarks, HasAfterMarks, NoneEmpty, all_of, IsKey, IsPattern, IsSimplePattern, IsEntry, IsFieldPattern, IsExpr, IsPostfix, IsItem, IsQualifier, IsAssoc, IsField, IsGuard, IsWhen, IsCaseClause, IsIfClause, IsFunClause, IsCatch}
 use Rattle.erl_grammar.specs.Grammar as G
 use Rattle.erl_grammar.proofs.SpellingLaws as S
 
-as_pieces : {K : Type 0} {tokens : Node K → List Placed} {n : Node K} (pieces : List Piece) → ((ms : List Place) → tokens (node n.place ms n.kind) ≡ fill pieces ms) → owned pieces ≡ length n.marks → HasMarkEach tokens n
+pub as_pieces : {text : List Place → List Placed} {marks : List Place} (pieces : List Piece) → ((ms : List Place) → text ms ≡ fill pieces ms) → owned pieces ≡ length marks → HasMarks text marks
 as_pieces pieces e n = record { pieces = pieces; written = e; as_many = n }
 
+-- pieces, and others behind them
+pub joined : (ps qs : List Piece) (ms ns : List Place) → owned ps ≡ length ms → owned qs ≡ length ns → owned (ps ++ qs) ≡ length (ms ++ ns)
+joined [] qs [] ns e f = f
+joined [] qs (m ∷ ms) ns e f = absurd (omega arith)
+joined (inner ts ∷ ps) qs ms ns e f = joined ps qs ms ns e f
+joined (own t ∷ ps) qs [] ns e f = absurd (omega arith)
+joined (own t ∷ ps) qs (m ∷ ms) ns e f = ap suc (joined ps qs ms ns (omega arith) f)
+
+-- pieces, others behind them, and what stands behind those
+pub nested : (ps qs rs : List Piece) (ms ns : List Place) → owned ps ≡ length ms → owned (qs ++ rs) ≡ length ns → owned ((ps ++ qs) ++ rs) ≡ length (ms ++ ns)
+nested ps qs rs ms ns e f = ap owned (append_assoc ps qs rs) ∙ joined ps (qs ++ rs) ms ns e f
+
+-- the separators of parts
+pub only_gaps : {A : Type 0} (t : Token) (tokens : A → List Placed) (xs : List A) (ms : List Place) → AreSeparators xs ms → owned (separated t (map tokens xs)) ≡ length ms
+only_gaps t tokens [] [] g = refl
+only_gaps t tokens [] (m ∷ ms) g = elim g [ ]
+only_gaps t tokens (x ∷ []) [] g = refl
+only_gaps t tokens (x ∷ []) (m ∷ ms) g = elim g [ ]
+only_gaps t tokens (x ∷ y ∷ ys) [] g = elim g [ ]
+only_gaps t tokens (x ∷ y ∷ ys) (m ∷ ms) g = ap suc (only_gaps t tokens (y ∷ ys) ms g)
+
 -- the separators of parts, and what stands behind the last part
-gaps : {A : Type 0} (t : Token) (tokens : A → List Placed) (xs : List A) (ms : List Place) (ps : List Piece) (ns : List Place) → AreSeparators xs ms → owned ps ≡ length ns → owned (separated t (map tokens xs) ++ ps) ≡ length (ms ++ ns)
-gaps t tokens [] [] ps ns g e = e
-gaps t tokens [] (m ∷ ms) ps ns g e = elim g [ ]
-gaps t tokens (x ∷ []) [] ps ns g e = e
-gaps t tokens (x ∷ []) (m ∷ ms) ps ns g e = elim g [ ]
-gaps t tokens (x ∷ y ∷ ys) [] ps ns g e = elim g [ ]
-gaps t tokens (x ∷ y ∷ ys) (m ∷ ms) ps ns g e = ap suc (gaps t tokens (y ∷ ys) ms ps ns g e)
+pub gaps : {A : Type 0} (t : Token) (tokens : A → List Placed) (xs : List A) (ms : List Place) (ps : List Piece) (ns : List Place) → AreSeparators xs ms → owned ps ≡ length ns → owned (separated t (map tokens xs) ++ ps) ≡ length (ms ++ ns)
+gaps t tokens xs ms ps ns g e = joined (separated t (map tokens xs)) ps ms ns (only_gaps t tokens xs ms g) e
 
 -- parts between marks that open and close
-closed : {A : Type 0} (tokens : A → List Placed) (xs : List A) (ms : List Place) (closing : Token) (c : Place) → AreSeparators xs ms → owned (commas (map tokens xs) ++ own closing ∷ []) ≡ length (ms ++ c ∷ [])
+pub closed : {A : Type 0} (tokens : A → List Placed) (xs : List A) (ms : List Place) (closing : Token) (c : Place) → AreSeparators xs ms → owned (commas (map tokens xs) ++ own closing ∷ []) ≡ length (ms ++ c ∷ [])
 closed tokens xs ms closing c g = gaps (T.Mark (codes ",")) tokens xs ms (own closing ∷ []) (c ∷ []) g refl
 
 clauses : {A : Type 0} (tokens : A → List Placed) (xs : List A) (ms : List Place) (c : Place) → AreSeparators xs ms → owned (semicolons (map tokens xs) ++ word (codes "end") ∷ []) ≡ length (ms ++ c ∷ [])
@@ -174,15 +191,10 @@ guard_marks (G.guard ms t ts alternatives n g h k) = as_pieces (guard_text ((t �
 
 -- the elements of a body, behind which nothing stands
 body : (is : List (Node ItemKind)) (ms : List Place) → AreSeparators is ms → owned (commas (map item_tokens is)) ≡ length ms
-body [] [] g = refl
-body [] (m ∷ ms) g = elim g [ ]
-body (i ∷ []) [] g = refl
-body (i ∷ []) (m ∷ ms) g = elim g [ ]
-body (i ∷ j ∷ is) [] g = elim g [ ]
-body (i ∷ j ∷ is) (m ∷ ms) g = ap suc (body (j ∷ is) ms g)
+body is ms g = only_gaps (T.Mark (codes ",")) item_tokens is ms g
 
 -- a guard, where there is one, and a body
-when_and_body : {w : Option (Node (List (List (Node ExprKind))))} {ws : List Place} (a : Place) (is : List (Node ItemKind)) (ms : List Place) → IsWhen w ws → AreSeparators is ms → owned (when_pieces (optional_guard expr_tokens w) ++ body_pieces (map item_tokens is)) ≡ length (ws ++ a ∷ ms)
+pub when_and_body : {w : Option (Node (List (List (Node ExprKind))))} {ws : List Place} (a : Place) (is : List (Node ItemKind)) (ms : List Place) → IsWhen w ws → AreSeparators is ms → owned (when_pieces (optional_guard expr_tokens w) ++ body_pieces (map item_tokens is)) ≡ length (ws ++ a ∷ ms)
 when_and_body a is ms G.no_guard g = ap suc (body is ms g)
 when_and_body a is ms (G.when_guard w v h) g = ap (λ n. suc (suc n)) (body is ms g)
 

@@ -42,10 +42,10 @@ pub ruleset level_laws = (pattern_deep-zero, pattern_deep-suc, expr_deep-zero, e
 -- ---- lists of parts, each with what is said of its kind put in place of the kind
 
 -- a node with what is said of its kind
-abbrev put : {A : Type 0} → (A → Deep) → Node A → Node Deep
+abbrev pub put : {A : Type 0} → (A → Deep) → Node A → Node Deep
 put say n = node n.place n.marks (say n.kind)
 
-deep_list : {A : Type 0} (say : A → Deep) (deep : Node Deep → Deep) (ns : List (Node A)) (levels : ℕ) → deep_all deep (S.former-ExprKind-Tuple-0.map A Deep say ns) levels ≡ deep_all (λ n. deep (put say n)) ns levels
+pub deep_list : {A : Type 0} (say : A → Deep) (deep : Node Deep → Deep) (ns : List (Node A)) (levels : ℕ) → deep_all deep (S.former-ExprKind-Tuple-0.map A Deep say ns) levels ≡ deep_all (λ n. deep (put say n)) ns levels
 deep_list say deep [] levels = refl
 deep_list say deep (n ∷ ns) levels = ap (λ ps. deep (put say n) levels ++ ps) (deep_list say deep ns levels)
 
@@ -53,7 +53,7 @@ deep_entries : {A : Type 0} (say : A → Deep) (ns : List (Node (Node LiteralKin
 deep_entries say [] levels = refl
 deep_entries say (n ∷ ns) levels = ap (λ ps. deep_node (put say n.kind.1) levels ++ ps) (deep_entries say ns levels)
 
-deep_fields : {A : Type 0} (say : A → Deep) (ns : List (Node (List ℕ × Node A))) (levels : ℕ) → deep_all (deep_second deep_node) (S.former-ExprKind-RecNew-2.map A Deep say ns) levels ≡ deep_all (deep_second (λ n. deep_node (put say n))) ns levels
+pub deep_fields : {A : Type 0} (say : A → Deep) (ns : List (Node (List ℕ × Node A))) (levels : ℕ) → deep_all (deep_second deep_node) (S.former-ExprKind-RecNew-2.map A Deep say ns) levels ≡ deep_all (deep_second (λ n. deep_node (put say n))) ns levels
 deep_fields say [] levels = refl
 deep_fields say (n ∷ ns) levels = ap (λ ps. deep_node (put say n.kind.1) levels ++ ps) (deep_fields say ns levels)
 

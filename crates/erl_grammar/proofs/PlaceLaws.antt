@@ -22,11 +22,11 @@ use Rattle.erl_grammar.specs.Grammar.{node, IsKey, IsPattern, IsSimplePattern, I
 use Rattle.erl_grammar.specs.Grammar as G
 use Rattle.erl_grammar.proofs.SpellingLaws as S
 
-begins_by : {p : Place} {ts : List Placed} (first : Token) (others : List Placed) → ts ≡ at first p ∷ others → BeginsAt p ts
+pub begins_by : {p : Place} {ts : List Placed} (first : Token) (others : List Placed) → ts ≡ at first p ∷ others → BeginsAt p ts
 begins_by first others e = record { first = first; others = others; in_turn = e }
 
 -- the tokens of a part, and others behind them
-begins_with : {p : Place} {ts : List Placed} (us vs : List Placed) → ts ≡ us ++ vs → BeginsAt p us → BeginsAt p ts
+pub begins_with : {p : Place} {ts : List Placed} (us vs : List Placed) → ts ≡ us ++ vs → BeginsAt p us → BeginsAt p ts
 begins_with us vs e b = record { first = b.first; others = b.others ++ vs; in_turn = e ∙ ap (λ ws. ws ++ vs) b.in_turn }
 
 -- ---- patterns

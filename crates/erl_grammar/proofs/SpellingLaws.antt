@@ -30,7 +30,7 @@ use Rattle.erl_grammar.specs.Grammar.{node, clause_of, assoc_of, catch_of}
 
 -- ---- lists of parts, each with what is said of its kind put in place of the kind
 
-shown_list : {A : Type 0} (say : A → Shown) (ns : List (Node A)) → map shown (S.former-ExprKind-Tuple-0.map A Shown say ns) ≡ map (λ (n : Node A). say n.kind n.marks) ns
+pub shown_list : {A : Type 0} (say : A → Shown) (ns : List (Node A)) → map shown (S.former-ExprKind-Tuple-0.map A Shown say ns) ≡ map (λ (n : Node A). say n.kind n.marks) ns
 shown_list say [] = refl
 shown_list say (n ∷ ns) = ap (λ ts. say n.kind n.marks ∷ ts) (shown_list say ns)
 

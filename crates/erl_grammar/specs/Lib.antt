@@ -4,4 +4,12 @@ pub mod Spelling
 pub mod Nesting
 pub mod Guards
 pub mod Grammar
+pub mod TypeSpelling
+pub mod TypeNesting
+pub mod TypeGrammar
+pub mod FormSpelling
+pub mod FormNesting
+pub mod FormGrammar
 pub mod SmallTrees
+pub mod SmallTypes
+pub mod SmallForms

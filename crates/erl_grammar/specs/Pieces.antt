@@ -27,11 +27,15 @@ owned [] = zero
 owned (inner ts ∷ ps) = owned ps
 owned (own t ∷ ps) = suc (owned ps)
 
--- a node has as many marks as tokens of its own: with any marks it is written as some pieces, and so many of these are its own as it has marks
-pub record HasMarkEach {K : Type 0} (tokens : Node K → List Placed) (n : Node K) : Type 0 where
+-- a text has as many marks as tokens of its own: with any marks it is written as some pieces, and so many of these are its own as there are marks
+pub record HasMarks (text : List Place → List Placed) (marks : List Place) : Type 0 where
   pub pieces : List Piece
-  pub written : (ms : List Place) → tokens (record { place = n.place; marks = ms; kind = n.kind }) ≡ fill pieces ms
-  pub as_many : owned pieces ≡ length n.marks
+  pub written : (ms : List Place) → text ms ≡ fill pieces ms
+  pub as_many : owned pieces ≡ length marks
+
+-- a node has as many marks as tokens of its own
+abbrev pub HasMarkEach : {K : Type 0} → (Node K → List Placed) → Node K → Type 0
+HasMarkEach tokens n = HasMarks (λ ms. tokens (record { place = n.place; marks = ms; kind = n.kind })) n.marks
 
 -- the first of some tokens stands at this place
 pub record BeginsAt (p : Place) (tokens : List Placed) : Type 0 where

@@ -126,9 +126,13 @@ case_clause_shown c = fill (commas c.kind.patterns ++ (when_pieces c.kind.guard 
 abbrev pub if_clause_shown : Node ClauseText → List Placed
 if_clause_shown c = fill (guard_pieces c.kind.guard ++ body_pieces c.kind.body) c.marks
 
+-- parameters, a guard and a body: `(P, ..) when G -> I, ..`
+abbrev pub parameters_pieces : ClauseText → List Piece
+parameters_pieces c = mark (codes "(") ∷ (commas c.patterns ++ mark (codes ")") ∷ (when_pieces c.guard ++ body_pieces c.body))
+
 -- a clause of a fun: `(P, ..) when G -> I, ..`
 abbrev pub fun_clause_shown : Node ClauseText → List Placed
-fun_clause_shown c = fill (mark (codes "(") ∷ (commas c.kind.patterns ++ mark (codes ")") ∷ (when_pieces c.kind.guard ++ body_pieces c.kind.body))) c.marks
+fun_clause_shown c = fill (parameters_pieces c.kind) c.marks
 
 -- ---- expressions
 

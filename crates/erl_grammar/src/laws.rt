@@ -1,5 +1,5 @@
-//! Laws of well-formed trees, each the contract of a function that does nothing: at which place a node
-//! begins, how many marks it has, and that its depth is bounded.
+//! Laws of well-formed patterns and expressions, each the contract of a function that does nothing: at
+//! which place a node begins, how many marks it has, and that its depth is bounded.
 
 ghost use Rattle.std.specs.Prelude.{ℕ, Bool, List};
 ghost use Rattle.type_terms.specs.Keys.{Name};
