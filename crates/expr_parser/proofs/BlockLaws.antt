@@ -1,6 +1,6 @@
 -- Expressions between words: `begin`, `case`, `if`, `fun`, `try`.
-use Rattle.std.proofs.Common.{◌≡◌, ℕ, suc, ◌≤◌, true, List, [], ◌∷◌, ◌++◌, map, refl, ap, sym, ◌∙◌, subst, append_assoc, arith}
-use Rattle.std.specs.Prelude.{Option, Some, None, codes}
+use Rattle.std.proofs.Common.{◌≡◌, ℕ, ℤ, suc, ◌≤◌, Bool, true, false, List, [], ◌∷◌, ◌++◌, map, refl, ap, sym, ◌∙◌, subst, append_assoc, append-nil, arith}
+use Rattle.std.specs.Prelude.{Option, Some, None, Ok, Err, codes}
 use Rattle.type_terms.specs.Keys.{Name}
 use Rattle.erl_tree.specs.Lists.{Among}
 use Rattle.erl_tree.specs.declared.token.Place.{Place}
@@ -8,32 +8,36 @@ use Rattle.erl_tree.specs.declared.token.Placed.{Placed}
 use Rattle.erl_tree.specs.declared.token.Node.{Node}
 use Rattle.erl_tree.specs.declared.token.Token.{Token}
 use Rattle.erl_tree.specs.declared.token.Token.TheVariants as T
+use Rattle.erl_tree.specs.declared.expr.ExprKind.{ExprKind}
 use Rattle.erl_tree.specs.declared.expr.ExprKind.TheVariants as X
 use Rattle.erl_tree.specs.declared.expr.ItemKind.{ItemKind}
 use Rattle.erl_tree.specs.declared.expr.ClauseKind.{ClauseKind}
 use Rattle.erl_tree.specs.declared.expr.CatchKind.{CatchKind}
 use Rattle.erl_grammar.specs.declared.head.Head.TheVariants.{Plain}
-use Rattle.erl_grammar.specs.Pieces.{at, Piece, fill, word, commas, semicolons}
-use Rattle.erl_grammar.specs.Spelling.{expr_tokens, item_tokens, case_clause_tokens, if_clause_tokens, fun_clause_tokens, catch_tokens, of_pieces, catch_pieces, after_pieces}
-use Rattle.erl_grammar.specs.Nesting.{Deep, deep_all, deep_optional, item_deep, clause_deep, catch_deep}
-use Rattle.erl_grammar.specs.Grammar.{node, AreSeparators, IsPostfix, HavePartMarks, HasAfterMarks, items_of, HasCatchOrAfter, begin_end, case_of, if_end, fun_name, fun_end, try_end, IsItem, IsCaseClause, IsIfClause, IsFunClause, IsCatch}
+use Rattle.erl_grammar.specs.Pieces.{at, Piece, own, fill, word, commas, semicolons}
+use Rattle.erl_grammar.specs.Spelling.{expr_shown, expr_tokens, item_tokens, case_clause_tokens, if_clause_tokens, fun_clause_tokens, catch_tokens, of_pieces, catch_pieces, after_pieces}
+use Rattle.erl_grammar.specs.Nesting.{Deep, deep_all, deep_optional, expr_deep, item_deep, clause_deep, catch_deep}
+use Rattle.erl_grammar.specs.Grammar.{node, AreSeparators, IsExpr, IsPostfix, HavePartMarks, HasAfterMarks, items_of, HasCatchOrAfter, begin_end, case_of, if_end, fun_name, fun_end, try_end, IsItem, IsCaseClause, IsIfClause, IsFunClause, IsCatch}
 use Rattle.erl_grammar.proofs.SpellingLaws.{expr_shown-Begin, expr_shown-Case, expr_shown-If, expr_shown-FunName, expr_shown-Fun, expr_shown-Try}
 use Rattle.erl_grammar.proofs.NestingLaws.{expr_kind_deep-Begin, expr_kind_deep-Case, expr_kind_deep-If, expr_kind_deep-FunName, expr_kind_deep-Fun, expr_kind_deep-Try}
-use Rattle.expr_parser.specs.declared.height.Measured.{Measured}
-use Rattle.expr_parser.specs.Heights.{flat, higher}
-use Rattle.expr_parser.specs.Tokens.{Reads}
-use Rattle.expr_parser.specs.Parts.{Several}
-use Rattle.expr_parser.specs.Outside.{HasOutside, remote_name, named_fun}
-use Rattle.expr_parser.specs.Expressions.{Level, read_item, read_body, read_case_clause, read_if_clause, read_fun_clause, read_catch, read_begin, read_case, read_if, read_fun_name, is_any_variable, variable_next, read_fun_clauses, read_fun, read_part, Ending, read_after, has_end, try_built, read_try}
-use Rattle.expr_parser.proofs.Right.{Measures}
-use Rattle.expr_parser.proofs.HeightLaws.{measures_as, nothing_measured, both_measured, higher_within}
-use Rattle.expr_parser.proofs.Then.{Behind, behind_token, behind_part, behind_behind, Right, right_ok, right_fault, right_outside, right_next, right_case, right_if}
-use Rattle.expr_parser.proofs.TokenLaws.{IsWordNext, word-takes, expect_word, mark-takes, expect_mark, atom-takes, expect_integer}
-use Rattle.expr_parser.proofs.PartLaws.{listed, fill-listed, AreRead, read_parts-right}
+use Rattle.token_readers.specs.declared.height.Height.{Height}
+use Rattle.token_readers.specs.declared.height.Measured.{Measured}
+use Rattle.token_readers.specs.Heights.{flat, higher}
+use Rattle.token_readers.specs.Tokens as R
+use Rattle.token_readers.specs.Tokens.{Answer, Reads, ◌>>=◌, in_case, outside, expect, mark, atom, integer}
+use Rattle.token_readers.specs.Parts.{Several, no_parts, read_parts, built}
+use Rattle.token_readers.specs.Outside.{HasOutside, remote_fun, named_fun}
+use Rattle.expr_parser.specs.Operations.{Expr}
+use Rattle.expr_parser.specs.Expressions.{Level, Headed, read_item, read_body, read_case_clause, read_if_clause, read_fun_clause, read_catch, read_begin, read_case, read_if, read_fun_name, is_any_variable, variable_next, read_fun_clauses, read_fun, read_part, Ending, read_after, has_end, try_built, read_try}
+use Rattle.token_readers.proofs.Right.{Measures, Read}
+use Rattle.token_readers.proofs.HeightLaws.{measures_as, nothing_measured, both_measured, higher_within}
+use Rattle.token_readers.proofs.Then.{Behind, behind_none, behind_token, behind_part, behind_behind, Right, right_ok, right_fault, right_outside, right_next, right_case, right_if, IsRead}
+use Rattle.token_readers.proofs.TokenLaws.{stands_after, IsWordNext, word-takes, expect_word, mark-takes, expect_mark, atom-takes, expect_integer}
+use Rattle.token_readers.proofs.PartLaws.{listed, fill-listed, AreRead, read_parts-right}
 use Rattle.expr_parser.proofs.Levels.{IsLevel}
 use Rattle.expr_parser.proofs.Inner.{ReadsRightly, AreParts}
 use Rattle.expr_parser.proofs.Heads.{HeadedRead, headed_read, listed_closed, right_tokens}
-use Rattle.expr_parser.proofs.CallLaws.{stands, stands_behind}
+use Rattle.expr_parser.proofs.CallLaws.{stands}
 
 -- the gaps between parts that were read, and what is said of each
 module _ {A : Type 0} {Is : A → Type 0} {tokens : A → List Placed} {deep : A → Deep} {levels : ℕ} {separator : List ℕ} {ts : List Placed} {q : Several A × List Placed} (r : AreRead Is tokens deep levels separator ts q) where
@@ -224,7 +228,7 @@ module _ (levels : ℕ) (l : Level) (known : IsLevel levels l) (parts : AreParts
       (ap (λ us. at (T.Word (codes "fun")) p ∷ at (T.Atom name) n ∷ us) (g ∙ ap (λ us. at (T.Mark (codes "/")) s.0 ∷ us) h) ∙ ap (λ us. us ++ a.1) (sym (expr_shown-FunName name a.0.0 (p ∷ n ∷ s.0 ∷ a.0.1 ∷ []))))
       (nothing_measured (expr_kind_deep-FunName name a.0.0))
       (omega arith)))
-      (λ d g. right_outside (stands_behind (behind_part (at (T.Word (codes "fun")) p ∷ at (T.Atom name) n ∷ []) (ap (λ us. at (T.Word (codes "fun")) p ∷ at (T.Atom name) n ∷ us) (mark-takes (codes ":") ts d g))) (remote_name d.0 [] d.1)))
+      (λ d g. right_outside (subst (λ us. HasOutside (at (T.Word (codes "fun")) p ∷ at (T.Atom name) n ∷ us) d.0 (codes "remote name")) (sym (mark-takes (codes ":") ts d g)) (stands_after (at (T.Word (codes "fun")) p ∷ at (T.Atom name) n ∷ []) (remote_fun name p n d.0 [] d.1))))
 
   -- `fun` is read rightly
   pub read_fun-right : (p : Place) (ts : List Placed) → Right (HeadedRead (suc levels) (at (T.Word (codes "fun")) p ∷ ts)) (at (T.Word (codes "fun")) p ∷ ts) (read_fun l p ts)

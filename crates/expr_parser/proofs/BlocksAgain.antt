@@ -1,6 +1,6 @@
 -- Expressions between words are read again.
-use Rattle.std.proofs.Common.{◌≡◌, ℕ, ℤ, true, false, List, [], ◌∷◌, ◌++◌, map, refl, sym, subst, inl}
-use Rattle.std.specs.Prelude.{Option, Some, None, codes}
+use Rattle.std.proofs.Common.{◌≡◌, ℕ, ℤ, suc, Bool, true, false, List, [], ◌∷◌, ◌++◌, map, refl, ap, sym, ◌∙◌, subst, inl, append_assoc}
+use Rattle.std.specs.Prelude.{Option, Some, None, Ok, codes}
 use Rattle.type_terms.specs.Keys.{Name}
 use Rattle.erl_tree.specs.Lists.{Among}
 use Rattle.erl_tree.specs.declared.token.Place.{Place}
@@ -8,6 +8,7 @@ use Rattle.erl_tree.specs.declared.token.Placed.{Placed}
 use Rattle.erl_tree.specs.declared.token.Node.{Node}
 use Rattle.erl_tree.specs.declared.token.Token.{Token}
 use Rattle.erl_tree.specs.declared.token.Token.TheVariants as T
+use Rattle.erl_tree.specs.declared.expr.ExprKind.{ExprKind}
 use Rattle.erl_tree.specs.declared.expr.ExprKind.TheVariants as X
 use Rattle.erl_tree.specs.declared.expr.ItemKind.{ItemKind}
 use Rattle.erl_tree.specs.declared.expr.ClauseKind.{ClauseKind}
@@ -18,20 +19,21 @@ use Rattle.erl_grammar.specs.Spelling.{expr_tokens, item_tokens, case_clause_tok
 use Rattle.erl_grammar.specs.Nesting.{Deep, deep_all, deep_optional, expr_deep, item_deep, clause_deep, catch_deep}
 use Rattle.erl_grammar.specs.Grammar.{node, AreSeparators, IsExpr, HavePartMarks, HasAfterMarks, items_of, HasCatchOrAfter, IsItem, IsCaseClause, IsIfClause, IsFunClause, IsCatch, fun_clause}
 use Rattle.erl_grammar.proofs.NestingLaws.{expr_kind_deep-Begin, expr_kind_deep-Case, expr_kind_deep-If, expr_kind_deep-Fun, expr_kind_deep-Try}
-use Rattle.expr_parser.specs.declared.height.Height.{Height}
-use Rattle.expr_parser.specs.declared.height.Measured.{Measured}
-use Rattle.expr_parser.specs.Heights.{flat, higher, above}
-use Rattle.expr_parser.specs.Tokens as R
-use Rattle.expr_parser.specs.Tokens.{Answer, Reads, ◌>>=◌, in_case, unexpected, outside, expect, is_mark, mark, atom, integer}
-use Rattle.expr_parser.specs.Parts.{read_parts}
+use Rattle.token_readers.specs.declared.height.Height.{Height}
+use Rattle.token_readers.specs.declared.height.Measured.{Measured}
+use Rattle.token_readers.specs.Heights.{flat, higher, above, measured}
+use Rattle.token_readers.specs.Tokens as R
+use Rattle.token_readers.specs.Tokens.{Answer, Reads, ◌>>=◌, in_case, unexpected, outside, expect, is_mark, mark, atom, integer}
+use Rattle.token_readers.specs.Parts.{Several, no_parts, read_parts, built}
 use Rattle.expr_parser.specs.Operations.{Expr}
-use Rattle.expr_parser.specs.Expressions.{Level, read_item, read_body, read_case_clause, read_if_clause, read_fun_clause, read_catch, read_begin, read_case, read_if, read_fun_name, variable_next, read_fun_clauses, read_fun, read_part, Ending, read_after, has_end, read_try}
-use Rattle.expr_parser.proofs.HeightLaws.{among_front, among_behind}
-use Rattle.expr_parser.proofs.Then.{Again, again_ok, again_then, again_step, again_none, again_some, again_true, again_false, again_read}
-use Rattle.expr_parser.proofs.TokenLaws.{word-again, expect_word-again, expect_mark-again, atom-again, expect_integer-again}
-use Rattle.expr_parser.proofs.PartLaws.{listed, AreThese, again_these, read_parts-again}
-use Rattle.expr_parser.proofs.Levels.{IsLevel}
-use Rattle.expr_parser.proofs.Endings.{mark-none, word-none, Closes, EndsItem, EndsBody, closes-expr, closes-item, closes-body, comma-closes, semicolon-closes, of-closes, end-closes, catch-closes, after-closes}
+use Rattle.expr_parser.specs.Expressions.{Level, Headed, read_item, read_body, read_case_clause, read_if_clause, read_fun_clause, read_catch, read_begin, read_case, read_if, read_fun_name, variable_next, read_fun_clauses, read_fun, read_part, Ending, read_after, has_end, try_built, read_try}
+use Rattle.token_readers.proofs.HeightLaws.{among_front, among_behind}
+use Rattle.token_readers.proofs.Then.{Again, again_ok, again_then, again_step, again_none, again_some, again_true, again_false, IsDeep, again_read}
+use Rattle.token_readers.proofs.TokenLaws.{word-again, expect_word-again, mark-again, expect_mark-again, atom-again, expect_integer-again}
+use Rattle.token_readers.proofs.PartLaws.{listed, AreThese, again_these, read_parts-again}
+use Rattle.expr_parser.proofs.Levels.{EndsExpr, IsLevel}
+use Rattle.token_readers.proofs.Endings.{mark-none, word-none}
+use Rattle.expr_parser.proofs.Endings.{Closes, EndsItem, EndsBody, closes-expr, closes-item, closes-body, comma-closes, semicolon-closes, of-closes, end-closes, catch-closes, after-closes}
 use Rattle.expr_parser.proofs.ItemLaws.{deeper_in}
 use Rattle.expr_parser.proofs.Inner.{ReadsAgain, AreParts}
 use Rattle.expr_parser.proofs.BlockLaws.{part_pieces}

@@ -10,8 +10,8 @@ use Rattle.erl_grammar.specs.Spelling.{item_tokens}
 use Rattle.erl_grammar.specs.Nesting.{deep_all, item_deep}
 use Rattle.erl_grammar.specs.Grammar.{AreSeparators, IsItem}
 use Rattle.expr_parser.specs.Expressions.{Level, read_item, read_body}
-use Rattle.expr_parser.proofs.Then.{Right, Again}
-use Rattle.expr_parser.proofs.PartLaws.{listed, AreRead, read_parts-right, AreThese, read_parts-again}
+use Rattle.token_readers.proofs.Then.{Right, Again}
+use Rattle.token_readers.proofs.PartLaws.{listed, AreRead, read_parts-right, AreThese, read_parts-again}
 use Rattle.expr_parser.proofs.Levels.{IsLevel}
 use Rattle.expr_parser.proofs.Endings.{EndsItem, EndsBody, comma-closes, closes-item}
 use Rattle.expr_parser.proofs.ItemLaws.{item-right, item-again}

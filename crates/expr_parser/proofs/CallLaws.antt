@@ -1,6 +1,6 @@
 -- Calls, and what begins with a name, a variable, a string or a parenthesis.
-use Rattle.std.proofs.Common.{◌≡◌, ℕ, suc, true, false, List, [], ◌∷◌, ◌++◌, map, refl, ap, sym, ◌∙◌, subst, append_assoc, arith}
-use Rattle.std.specs.Prelude.{Option, Some, None, codes}
+use Rattle.std.proofs.Common.{◌≡◌, ℕ, suc, ◌≤◌, Bool, true, false, List, [], ◌∷◌, ◌++◌, map, refl, ap, sym, ◌∙◌, subst, inl, inr, append_assoc, append-nil, arith}
+use Rattle.std.specs.Prelude.{Option, Some, None, Ok, Err, if◌then◌else◌, codes}
 use Rattle.std.specs.Str.{bytes_eq}
 use Rattle.std.proofs.lemmas.Slice.Eq.{bytes_eq-Decides}
 use Rattle.type_terms.specs.Keys.{Name}
@@ -8,28 +8,30 @@ use Rattle.erl_tree.specs.Lists.{Among}
 use Rattle.erl_tree.specs.declared.token.Place.{Place}
 use Rattle.erl_tree.specs.declared.token.Placed.{Placed}
 use Rattle.erl_tree.specs.declared.token.Token.TheVariants as T
+use Rattle.erl_tree.specs.declared.expr.ExprKind.{ExprKind}
 use Rattle.erl_tree.specs.declared.expr.ExprKind.TheVariants as X
 use Rattle.erl_grammar.specs.declared.head.Head.TheVariants.{Plain, OfCall}
 use Rattle.erl_grammar.specs.Guards.{is_call_in_profile}
-use Rattle.erl_grammar.specs.Pieces.{at, own, fill, commas}
-use Rattle.erl_grammar.specs.Spelling.{expr_shown, expr_tokens}
-use Rattle.erl_grammar.specs.Nesting.{expr_deep}
+use Rattle.erl_grammar.specs.Pieces.{at, own, inner, fill, commas}
+use Rattle.erl_grammar.specs.Spelling.{expr_shown, expr_tokens, prefix_pieces, argument_pieces}
+use Rattle.erl_grammar.specs.Nesting.{deep_all, expr_kind_deep, expr_deep}
 use Rattle.erl_grammar.specs.Grammar.{node, AreSeparators, IsExpr, IsPostfix, variable, parens, tuple, call, prefixed_call, variable_applied, parens_applied}
 use Rattle.erl_grammar.specs.Grammar as G
 use Rattle.erl_grammar.proofs.SpellingLaws.{expr_shown-Atom, expr_shown-Var, expr_shown-Str, expr_shown-Paren, expr_shown-Tuple, expr_shown-Call, expr_shown-Apply}
 use Rattle.erl_grammar.proofs.NestingLaws.{expr_kind_deep-Atom, expr_kind_deep-Var, expr_kind_deep-Str, expr_kind_deep-Paren, expr_kind_deep-Tuple, expr_kind_deep-Call, expr_kind_deep-Apply}
-use Rattle.expr_parser.specs.declared.height.Measured.{Measured}
-use Rattle.expr_parser.specs.Heights.{flat, higher}
-use Rattle.expr_parser.specs.Parts.{Several, read_closed}
-use Rattle.expr_parser.specs.Patterns.{built}
-use Rattle.expr_parser.specs.Outside.{HasOutside, IsOutside, remote_name, adjacent_strings, wrong_call}
+use Rattle.token_readers.specs.declared.height.Height.{Height}
+use Rattle.token_readers.specs.declared.height.Measured.{Measured}
+use Rattle.token_readers.specs.Heights.{flat, higher}
+use Rattle.token_readers.specs.Tokens.{Answer, ◌>>=◌, in_case, outside, expect, mark, string_next}
+use Rattle.token_readers.specs.Parts.{Several, read_closed, built, within}
+use Rattle.token_readers.specs.Outside.{HasOutside, IsOutside, remote_atom, remote_variable, adjacent_strings, wrong_call, wrong_prefixed_call}
 use Rattle.expr_parser.specs.Operations.{Expr}
-use Rattle.expr_parser.specs.Expressions.{Level, read_call, read_application, read_prefixed, read_named, read_variable, read_string, read_parens, read_tuple}
-use Rattle.expr_parser.proofs.Right.{Measures, Read}
-use Rattle.expr_parser.proofs.HeightLaws.{measures_as, nothing_measured, both_measured, higher_within}
-use Rattle.expr_parser.proofs.Then.{Behind, behind_part, behind_behind, has_outside-behind, Right, right_ok, right_outside, right_next, right_case, right_if, right_within}
-use Rattle.expr_parser.proofs.TokenLaws.{mark-takes, expect_mark, expect_atom, string_next-takes}
-use Rattle.expr_parser.proofs.PartLaws.{AreClosed, read_closed-right}
+use Rattle.expr_parser.specs.Expressions.{Level, Headed, plain_leaf, read_call, read_application, read_prefixed, read_named, read_variable, read_string, read_parens, read_tuple}
+use Rattle.token_readers.proofs.Right.{Measures, Read}
+use Rattle.token_readers.proofs.HeightLaws.{measures_as, nothing_measured, both_measured, higher_within}
+use Rattle.token_readers.proofs.Then.{Behind, behind_none, behind_token, behind_part, behind_behind, Right, right_ok, right_outside, right_then, right_next, right_case, right_if, right_within}
+use Rattle.token_readers.proofs.TokenLaws.{stands_after, mark-takes, expect_mark, expect_atom, string_next-takes}
+use Rattle.token_readers.proofs.PartLaws.{AreClosed, read_closed-right}
 use Rattle.expr_parser.proofs.Levels.{IsLevel}
 use Rattle.expr_parser.proofs.Heads.{HeadedRead, headed_read, right_tokens}
 
@@ -51,10 +53,6 @@ string_read levels s p ts = headed_read p (p ∷ []) (X.Str s) flat Plain ts (G.
 pub stands : {ts : List Placed} {p : Place} {form : Name} → IsOutside form p [] ts → HasOutside ts p form
 stands i = record { before = []; rest = _; split = refl; stands = i }
 
--- or behind these tokens
-pub stands_behind : {ts us : List Placed} {p : Place} {form : Name} → Behind ts us → IsOutside form p [] us → HasOutside ts p form
-stands_behind b i = has_outside-behind b (stands i)
-
 -- a string is read rightly
 pub read_string-right : (levels : ℕ) (s : Name) (p : Place) (ts : List Placed) → Right (HeadedRead (suc levels) (at (T.Str s) p ∷ ts)) (at (T.Str s) p ∷ ts) (read_string s p ts)
 unfolding read_string
@@ -75,7 +73,7 @@ module _ (levels : ℕ) (l : Level) (known : IsLevel levels l) where
   -- the tokens of a call up to its opening parenthesis, and its marks there
   record IsFront (prefix : Option Name) (name : Name) (p : Place) (front : List Place) (tokens : List Placed) : Type 0 where
     text : (args : List Expr) (ms : List Place) → expr_shown (X.Call prefix name args) (front ++ ms) ≡ tokens ++ fill (commas (map expr_tokens args) ++ own (T.Mark (codes ")")) ∷ []) ms
-    starts : (others : List Place) × (front ≡ p ∷ others)
+    refused : (c : Place) (ms : List Place) (args : List Expr) (rest : List Placed) → is_call_in_profile name args ≡ false → AreSeparators args ms → ((e : Expr) → Among e args → IsExpr 0 e) → IsOutside (codes "built-in") p [] (expr_shown (X.Call prefix name args) (front ++ (ms ++ c ∷ [])) ++ rest)
     formed : (c : Place) (ms : List Place) (args : List Expr) → is_call_in_profile name args ≡ true → AreSeparators args ms → ((e : Expr) → Among e args → IsExpr 0 e) → IsPostfix OfCall (node p (front ++ (ms ++ c ∷ [])) (X.Call prefix name args))
 
   call_read : (prefix : Option Name) (name : Name) (p : Place) (front : List Place) (tokens ts : List Placed) (q : Several Expr × List Placed) → IsFront prefix name p front tokens → AreArguments levels ts q → is_call_in_profile name q.0.items ≡ true
@@ -90,9 +88,9 @@ module _ (levels : ℕ) (l : Level) (known : IsLevel levels l) where
   call_outside : (prefix : Option Name) (name : Name) (p : Place) (front : List Place) (tokens ts : List Placed) (q : Several Expr × List Placed) → IsFront prefix name p front tokens → AreArguments levels ts q → is_call_in_profile name q.0.items ≡ false
       → HasOutside (tokens ++ ts) p (codes "built-in")
   call_outside prefix name p front tokens ts q f r e =
-      let t : tokens ++ ts ≡ expr_tokens (node p (p ∷ (f.starts.0 ++ q.0.marks)) (X.Call prefix name q.0.items)) ++ q.1
-      = ap (λ us. tokens ++ us) r.takes ∙ (sym (append_assoc tokens _ q.1) ∙ ap (λ us. us ++ q.1) (sym (f.text q.0.items q.0.marks) ∙ ap (λ ns. expr_shown (X.Call prefix name q.0.items) (ns ++ q.0.marks)) f.starts.1)) in
-      subst (λ us. HasOutside us p (codes "built-in")) (sym t) (stands (wrong_call prefix name q.0.items (f.starts.0 ++ q.0.marks) p [] q.1 e r.formed))
+      let t : tokens ++ ts ≡ expr_shown (X.Call prefix name q.0.items) (front ++ (r.between ++ r.close ∷ [])) ++ q.1
+      = ap (λ us. tokens ++ us) r.takes ∙ (sym (append_assoc tokens _ q.1) ∙ ap (λ us. us ++ q.1) (sym (f.text q.0.items q.0.marks) ∙ ap (λ ms. expr_shown (X.Call prefix name q.0.items) (front ++ ms)) r.marks)) in
+      subst (λ us. HasOutside us p (codes "built-in")) (sym t) (stands (f.refused r.close r.between q.0.items q.1 e r.gaps r.formed))
 
   -- a call is read rightly, behind its opening parenthesis
   read_call-right : (prefix : Option Name) (name : Name) (p : Place) (front : List Place) (tokens ts : List Placed) → IsFront prefix name p front tokens → Right (HeadedRead (suc levels) (tokens ++ ts)) (tokens ++ ts) (read_call l prefix name p front ts)
@@ -104,14 +102,14 @@ module _ (levels : ℕ) (l : Level) (known : IsLevel levels l) where
   plain_front : (name : Name) (p o : Place) → IsFront None name p (p ∷ o ∷ []) (at (T.Atom name) p ∷ at (T.Mark (codes "(")) o ∷ [])
   plain_front name p o = record {
     text = λ args ms. expr_shown-Call None name args (p ∷ o ∷ ms);
-    starts = (o ∷ [], refl);
+    refused = λ c ms args rest e g h. wrong_call name args p o c ms [] rest e g h;
     formed = λ c ms args e g h. call p o c ms name args e g h;
   }
 
   prefixed_front : (name : Name) (p d n o : Place) → IsFront (Some (codes "erlang")) name p (p ∷ d ∷ n ∷ o ∷ []) (at (T.Atom (codes "erlang")) p ∷ at (T.Mark (codes ":")) d ∷ at (T.Atom name) n ∷ at (T.Mark (codes "(")) o ∷ [])
   prefixed_front name p d n o = record {
     text = λ args ms. expr_shown-Call (Some (codes "erlang")) name args (p ∷ d ∷ n ∷ o ∷ ms);
-    starts = (d ∷ n ∷ o ∷ [], refl);
+    refused = λ c ms args rest e g h. wrong_prefixed_call name args p d n o c ms [] rest e g h;
     formed = λ c ms args e g h. prefixed_call p d n o c ms name args e g h;
   }
 
@@ -131,7 +129,7 @@ module _ (levels : ℕ) (l : Level) (known : IsLevel levels l) where
       (λ e. right_ok (atom_read levels a p ts))
       (λ d e. right_if
       (λ g. right_tokens (ap (λ b. at (T.Atom b) p ∷ ts) (text_is (codes "erlang") a g) ∙ ap (λ us. at (T.Atom (codes "erlang")) p ∷ us) (mark-takes (codes ":") ts d e)) (read_prefixed-right p d.0 d.1))
-      (λ g. right_outside (stands_behind (behind_part (at (T.Atom a) p ∷ []) (ap (λ us. at (T.Atom a) p ∷ us) (mark-takes (codes ":") ts d e))) (remote_name d.0 [] d.1)))))
+      (λ g. right_outside (subst (λ us. HasOutside (at (T.Atom a) p ∷ us) d.0 (codes "remote name")) (sym (mark-takes (codes ":") ts d e)) (stands_after (at (T.Atom a) p ∷ []) (remote_atom a p d.0 [] d.1 g))))))
       (λ o e. right_tokens (ap (λ us. at (T.Atom a) p ∷ us) (mark-takes (codes "(") ts o e)) (read_call-right None a p (p ∷ o.0 ∷ []) (at (T.Atom a) p ∷ at (T.Mark (codes "(")) o.0 ∷ []) o.1 (plain_front a p o.0)))
 
   -- ---- calls of what an expression gives
@@ -164,7 +162,7 @@ module _ (levels : ℕ) (l : Level) (known : IsLevel levels l) where
   read_variable-right x p ts = right_case
       (λ n. right_case
       (λ e. right_ok (variable_read levels x p ts))
-      (λ d e. right_outside (stands_behind (behind_part (at (T.Var x) p ∷ []) (ap (λ us. at (T.Var x) p ∷ us) (mark-takes (codes ":") ts d e))) (remote_name d.0 [] d.1))))
+      (λ d e. right_outside (subst (λ us. HasOutside (at (T.Var x) p ∷ us) d.0 (codes "remote name")) (sym (mark-takes (codes ":") ts d e)) (stands_after (at (T.Var x) p ∷ []) (remote_variable x p d.0 [] d.1)))))
       (λ o e. right_tokens (ap (λ us. at (T.Var x) p ∷ us) (mark-takes (codes "(") ts o e) ∙ ap (λ us. us ++ at (T.Mark (codes "(")) o.0 ∷ o.1) (sym (expr_shown-Var x (p ∷ []))))
       (read_application-right (built p (p ∷ []) (X.Var x) flat) o.0 o.1 (variable_applied_read x p)))
 

@@ -1,11 +1,13 @@
 -- Calls, and what begins with a name, a variable, a string or a parenthesis: what is well formed is read again.
-use Rattle.std.proofs.Common.{◌≡◌, ℕ, suc, true, List, [], ◌∷◌, ◌++◌, map, refl}
-use Rattle.std.specs.Prelude.{Option, Some, None, codes}
+use Rattle.std.proofs.Common.{◌≡◌, ℕ, suc, Bool, true, false, List, [], ◌∷◌, ◌++◌, map, refl, ap, sym, ◌∙◌, subst}
+use Rattle.std.specs.Prelude.{Option, Some, None, Ok, codes}
+use Rattle.std.specs.Str.{bytes_eq}
 use Rattle.type_terms.specs.Keys.{Name}
 use Rattle.erl_tree.specs.Lists.{Among}
 use Rattle.erl_tree.specs.declared.token.Place.{Place}
 use Rattle.erl_tree.specs.declared.token.Placed.{Placed}
 use Rattle.erl_tree.specs.declared.token.Token.TheVariants as T
+use Rattle.erl_tree.specs.declared.expr.ExprKind.{ExprKind}
 use Rattle.erl_tree.specs.declared.expr.ExprKind.TheVariants as X
 use Rattle.erl_grammar.specs.declared.head.Head.{Head}
 use Rattle.erl_grammar.specs.declared.head.Head.TheVariants.{Plain, OfCall}
@@ -16,20 +18,22 @@ use Rattle.erl_grammar.specs.Nesting.{deep_all, expr_kind_deep, expr_deep}
 use Rattle.erl_grammar.specs.Grammar.{node, AreSeparators, IsExpr}
 use Rattle.erl_grammar.proofs.DeeperLaws.{expr_falls}
 use Rattle.erl_grammar.proofs.NestingLaws.{expr_kind_deep-Paren, expr_kind_deep-Tuple, expr_kind_deep-Call, expr_kind_deep-Apply}
-use Rattle.expr_parser.specs.declared.height.Height.{Height}
-use Rattle.expr_parser.specs.Heights.{flat, higher, above, measured}
-use Rattle.expr_parser.specs.Tokens.{Answer, outside, mark}
-use Rattle.expr_parser.specs.Parts.{read_closed}
+use Rattle.token_readers.specs.declared.height.Height.{Height}
+use Rattle.token_readers.specs.declared.height.Measured.{Measured}
+use Rattle.token_readers.specs.Heights.{flat, higher, above, measured}
+use Rattle.token_readers.specs.Tokens.{Answer, ◌>>=◌, in_case, outside, expect, mark, string_next}
+use Rattle.token_readers.specs.Parts.{Several, read_closed, built, within}
 use Rattle.expr_parser.specs.Operations.{Expr}
 use Rattle.expr_parser.specs.Expressions.{Level, Headed, read_call, read_application, read_prefixed, read_named, read_variable, read_string, read_parens, read_tuple}
-use Rattle.expr_parser.proofs.Right.{Measures}
-use Rattle.expr_parser.proofs.HeightLaws.{among_front, among_behind, measures_as, node_measured}
-use Rattle.expr_parser.proofs.Then.{Again, again_ok, again_step, again_none, again_some, again_true, again_false, again_within, IsDeep, again_read, again_read_right}
-use Rattle.expr_parser.proofs.TokenLaws.{mark-again, expect_mark-again, expect_atom-again}
-use Rattle.expr_parser.proofs.PartLaws.{AreThese, again_these, read_closed-again}
+use Rattle.token_readers.proofs.Right.{Measures}
+use Rattle.token_readers.proofs.HeightLaws.{among_front, among_behind, measures_as, node_measured}
+use Rattle.token_readers.proofs.Then.{Again, again_ok, again_step, again_none, again_some, again_true, again_false, again_within, IsDeep, again_read, again_read_right}
+use Rattle.token_readers.proofs.TokenLaws.{mark-again, expect_mark-again, expect_atom-again}
+use Rattle.token_readers.proofs.PartLaws.{AreThese, again_these, read_closed-again}
 use Rattle.expr_parser.proofs.FirstTokens as F
 use Rattle.expr_parser.proofs.Levels.{EndsExpr, IsLevel}
-use Rattle.expr_parser.proofs.Endings.{mark-none, Closes, closes-expr, comma-closes, parenthesis-closes, brace-closes}
+use Rattle.token_readers.proofs.Endings.{mark-none}
+use Rattle.expr_parser.proofs.Endings.{Closes, closes-expr, comma-closes, parenthesis-closes, brace-closes}
 use Rattle.expr_parser.proofs.ItemLaws.{deeper_in}
 use Rattle.expr_parser.proofs.Heads.{IsHeaded, EndsFirst}
 use Rattle.expr_parser.proofs.CallLaws.{variable_read}

@@ -15,16 +15,18 @@ use Rattle.erl_grammar.specs.Nesting.{pattern_deep, clause_deep, catch_deep}
 use Rattle.erl_grammar.specs.Grammar.{node, IsPattern, IsClass, IsWhen, no_guard, when_guard, clause_of, IsCaseClause, case_clause, catch_of, IsCatch, thrown, of_class}
 use Rattle.erl_grammar.proofs.SpellingLaws.{catch_shown-catch_of}
 use Rattle.erl_grammar.proofs.NestingLaws.{catch_kind_deep-catch_of}
-use Rattle.expr_parser.specs.declared.height.Measured.{Measured}
-use Rattle.expr_parser.specs.Heights.{higher, measured}
-use Rattle.expr_parser.specs.Tokens.{is_mark, mark}
-use Rattle.expr_parser.specs.Outside.{HasOutside, IsOutside, stack_trace}
+use Rattle.token_readers.specs.declared.height.Measured.{Measured}
+use Rattle.token_readers.specs.Heights.{higher, measured}
+use Rattle.token_readers.specs.Tokens.{is_mark, mark}
+use Rattle.token_readers.specs.Outside.{HasOutside, stack_trace}
 use Rattle.expr_parser.specs.Expressions.{Level, Guard, class_next, read_caught, read_catch}
-use Rattle.expr_parser.proofs.HeightLaws.{among_front, among_behind, measures_as, both_measured, higher_within}
-use Rattle.expr_parser.proofs.Then.{Behind, behind_token, behind_part, behind_behind, Right, right_ok, right_outside, right_behind, right_then, right_next, right_case, right_if, IsRead, Again, again_ok, again_from, again_step, again_none, again_true, again_false, IsPart, IsDeep, again_read}
-use Rattle.expr_parser.proofs.TokenLaws.{IsMarkNext, mark-takes, expect_mark, expect_mark-again}
+use Rattle.token_readers.proofs.HeightLaws.{among_front, among_behind, measures_as, both_measured, higher_within}
+use Rattle.token_readers.proofs.Then.{Behind, behind_token, behind_part, behind_behind, Right, right_ok, right_outside, right_behind, right_then, right_next, right_case, right_if, IsRead, Again, again_ok, again_from, again_step, again_none, again_true, again_false, IsPart, IsDeep, again_read}
+use Rattle.token_readers.proofs.TokenLaws.{IsMarkNext, mark-takes, expect_mark, expect_mark-again}
 use Rattle.expr_parser.proofs.Levels.{IsLevel}
-use Rattle.expr_parser.proofs.Endings.{EndsBody, mark-none, ends_pattern}
+use Rattle.expr_parser.proofs.Endings.{EndsBody}
+use Rattle.token_readers.proofs.Endings.{mark-none}
+use Rattle.pattern_parser.proofs.PatternEnds.{ends_pattern}
 use Rattle.expr_parser.proofs.PatternFirst.{pattern-no_class, pattern-class, class-found, class-pattern}
 use Rattle.expr_parser.proofs.ItemLaws.{two_parts, parts_behind, deeper_in}
 use Rattle.expr_parser.proofs.ClauseLaws.{behind_pieces, case_tokens, case_deep, case_read, behind-ends_pattern, behind_patterns-right, behind_patterns-again, case_clause-right, case_clause-again}
@@ -54,8 +56,15 @@ caught_read levels ts c d e h i m g = record {
   within = higher_within c.0.height e.0.height levels h.within g.within;
 }
 
-trace_stands : (ts : List Placed) (m : Place × List Placed) → IsMarkNext (codes ":") ts m → HasOutside ts m.0 (codes "stack trace")
-trace_stands ts m e = record { before = []; rest = ts; split = refl; stands = subst (IsOutside (codes "stack trace") m.0 []) (sym e) (stack_trace m.0 [] m.1) }
+-- a second colon stands behind a class and a pattern
+trace_stands : (levels : ℕ) (ts : List Placed) (c : Measured (Node PatternKind) × List Placed) (d : Place × List Placed) (q : Measured (Node PatternKind) × List Placed) (m : Place × List Placed) → IsRead IsPattern pattern_tokens pattern_deep levels ts c → IsClass c.0.tree → IsMarkNext (codes ":") c.1 d → IsRead IsPattern pattern_tokens pattern_deep levels d.1 q → IsMarkNext (codes ":") q.1 m
+    → HasOutside ts m.0 (codes "stack trace")
+trace_stands levels ts c d q m h i k g e = record {
+  before = pattern_tokens c.0.tree ++ at (T.Mark (codes ":")) d.0 ∷ pattern_tokens q.0.tree;
+  rest = at (T.Mark (codes ":")) m.0 ∷ m.1;
+  split = two_parts _ (pattern_tokens c.0.tree) (pattern_tokens q.0.tree) ts c.1 d.1 (at (T.Mark (codes ":")) m.0 ∷ m.1) _ refl h.takes k (g.takes ∙ ap (λ l. pattern_tokens q.0.tree ++ l) e);
+  stands = stack_trace c.0.tree q.0.tree d.0 m.0 [] m.1 i g.formed;
+}
 
 -- a clause with a class is read rightly, where a class and a colon come next
 pub caught-right : (levels : ℕ) (l : Level) → IsLevel levels l → (ts : List Placed) → class_next ts ≡ true → Right (IsRead IsCatch catch_tokens catch_deep levels ts) ts (read_caught l ts)
@@ -64,10 +73,11 @@ caught-right levels l L ts n = right_then (L.pattern_right ts) λ c h. right_nex
     let b : Behind ts d.1 = behind_behind (behind_part (pattern_tokens c.0.tree) h.takes) (behind_token m) in
     right_next b (L.pattern_right d.1) λ p g.
     let a : Behind ts p.1 = behind_behind b (behind_part (pattern_tokens p.0.tree) g.takes) in
+    let i : IsClass c.0.tree = pattern-class c.0.tree c.1 h.formed (sym (ap class_next h.takes) ∙ n) in
     right_case
     (λ e. right_next a (behind_patterns-right levels l L p.0.tree.place [] (p.0.tree ∷ []) p.0.height p.1) λ q r.
-    right_ok (caught_read levels ts c d q h (pattern-class c.0.tree c.1 h.formed (sym (ap class_next h.takes) ∙ n)) m (case_read levels d.1 p q g r)))
-    (λ t e. right_behind a (right_outside (trace_stands p.1 t (mark-takes (codes ":") p.1 t e))))
+    right_ok (caught_read levels ts c d q h i m (case_read levels d.1 p q g r)))
+    (λ t e. right_outside (trace_stands levels ts c d p t h i m g (mark-takes (codes ":") p.1 t e)))
 
 -- a clause of a `catch` part is read rightly
 pub catch-right : (levels : ℕ) (l : Level) → IsLevel levels l → (ts : List Placed) → Right (IsRead IsCatch catch_tokens catch_deep levels ts) ts (read_catch l ts)
@@ -101,7 +111,7 @@ caught-again levels l L p m _ rest x (case_clause q w a ws ms i is y z g f) e =
     let behind : List Placed = fill (behind_pieces w (i ∷ is)) ns ++ rest in
     let tokens : case_clause_tokens c ++ rest ≡ pattern_tokens q ++ behind = ap (λ l2. l2 ++ rest) (case_tokens q w (i ∷ is) ns) ∙ append_assoc (pattern_tokens q) (fill (behind_pieces w (i ∷ is)) ns) rest in
     again_from (ap (λ l2. read_caught l (pattern_tokens p ++ at (T.Mark (codes ":")) m ∷ l2)) tokens)
-    (again_read _ (L.pattern_again p _ (class-pattern x) (ends_pattern (T.Mark (codes ":")) m (pattern_tokens q ++ behind) refl refl)) (λ r d. deeper_in r (catch_kind_deep-catch_of (Some p) c levels) (among_front r (pattern_deep p levels) _ d)) λ h.
+    (again_read _ (L.pattern_again p _ (class-pattern x) (ends_pattern (T.Mark (codes ":")) m (pattern_tokens q ++ behind) refl refl refl)) (λ r d. deeper_in r (catch_kind_deep-catch_of (Some p) c levels) (among_front r (pattern_deep p levels) _ d)) λ h.
     again_step _ (expect_mark-again (codes ":") m (pattern_tokens q ++ behind))
     (again_read _ (L.pattern_again q behind y (behind-ends_pattern w ws a ms (i ∷ is) rest z)) (λ r d. deeper_in r (catch_kind_deep-catch_of (Some p) c levels) (among_behind r (pattern_deep p levels) _ (deeper_in r (case_deep q w (i ∷ is) ns levels) (among_front r (pattern_deep q levels) _ d)))) λ j.
     again_none _ (no_colon w ws a ms (i ∷ is) rest z)

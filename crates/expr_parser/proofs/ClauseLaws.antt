@@ -16,21 +16,24 @@ use Rattle.erl_grammar.specs.Nesting.{Deep, deep_all, deep_optional, deep_guard,
 use Rattle.erl_grammar.specs.Grammar.{node, AreSeparators, IsPattern, IsItem, IsGuard, IsWhen, no_guard, when_guard, clause_of, IsCaseClause, case_clause, IsIfClause, if_clause, IsFunClause, fun_clause}
 use Rattle.erl_grammar.proofs.SpellingLaws.{case_clause-tokens, if_clause-tokens, fun_clause-tokens}
 use Rattle.erl_grammar.proofs.NestingLaws.{clause_kind_deep-clause_of}
-use Rattle.expr_parser.specs.declared.height.Height.{Height}
-use Rattle.expr_parser.specs.declared.height.Measured.{Measured}
-use Rattle.expr_parser.specs.Heights.{higher, measured}
-use Rattle.expr_parser.specs.Parts.{Several}
+use Rattle.token_readers.specs.declared.height.Height.{Height}
+use Rattle.token_readers.specs.declared.height.Measured.{Measured}
+use Rattle.token_readers.specs.Heights.{higher, measured}
+use Rattle.token_readers.specs.Tokens.{is_bit_operator}
+use Rattle.token_readers.specs.Parts.{Several}
 use Rattle.expr_parser.specs.Expressions.{Level, Guard, When, read_behind_patterns, clause_built, read_case_clause, read_if_clause, read_fun_clause}
-use Rattle.expr_parser.proofs.Right.{Measures}
-use Rattle.expr_parser.proofs.HeightLaws.{among_front, among_behind, measures_as, both_measured, higher_within}
-use Rattle.expr_parser.proofs.Then.{behind_token, behind_part, behind_behind, Right, right_ok, right_as, right_behind, right_then, right_next, IsRead, Again, again_ok, again_as, again_from, again_step, IsPart, IsDeep, again_read}
-use Rattle.expr_parser.proofs.TokenLaws.{IsMarkNext, expect_mark, expect_mark-again}
-use Rattle.expr_parser.proofs.PartLaws.{listed, fill-listed, AreRead, again_these}
-use Rattle.expr_parser.proofs.Levels.{EndsPattern, IsLevel}
-use Rattle.expr_parser.proofs.Endings.{EndsBody, arrow-ends_guard, arrow-ends_when, ends_pattern}
+use Rattle.token_readers.proofs.Right.{Measures}
+use Rattle.token_readers.proofs.HeightLaws.{among_front, among_behind, measures_as, both_measured, higher_within}
+use Rattle.token_readers.proofs.Then.{behind_token, behind_part, behind_behind, Right, right_ok, right_as, right_behind, right_then, right_next, IsRead, Again, again_ok, again_as, again_from, again_step, IsPart, IsDeep, again_read}
+use Rattle.token_readers.proofs.TokenLaws.{IsMarkNext, expect_mark, expect_mark-again}
+use Rattle.token_readers.proofs.PartLaws.{listed, fill-listed, AreRead, again_these}
+use Rattle.pattern_parser.proofs.PatternEnds.{EndsPattern, ends_pattern}
+use Rattle.expr_parser.proofs.Levels.{IsLevel}
+use Rattle.expr_parser.proofs.Endings.{EndsBody, arrow-ends_guard, arrow-ends_when}
 use Rattle.expr_parser.proofs.ItemLaws.{two_parts, parts_behind, deeper_in}
 use Rattle.expr_parser.proofs.BodyLaws.{body-right, body-again}
-use Rattle.expr_parser.proofs.ParameterLaws.{ParametersRead, parameter_list-right, parameter_list-again}
+use Rattle.token_readers.proofs.ParameterLaws.{ParametersRead}
+use Rattle.expr_parser.proofs.ParameterLaws.{patterns-right, patterns-again}
 use Rattle.expr_parser.proofs.GuardedLaws.{guard-right, guard-again, WhenRead, again_when, when-right, when-again}
 
 -- the text of what follows the patterns of a clause
@@ -126,8 +129,9 @@ case_read levels ts p q h r =
 
 -- a guard or an arrow may follow a pattern
 pub behind-ends_pattern : (w : Option Guard) (ws : List Place) (a : Place) (ms : List Place) (items : List (Node ItemKind)) (rest : List Placed) → IsWhen w ws → EndsPattern (fill (behind_pieces w items) (ws ++ a ∷ ms) ++ rest)
-behind-ends_pattern _ _ a ms items rest no_guard = ends_pattern (T.Mark (codes "->")) a _ refl refl
-behind-ends_pattern _ _ a ms items rest (when_guard w g i) = ends_pattern (T.Word (codes "when")) w _ refl refl
+unfolding is_bit_operator
+behind-ends_pattern _ _ a ms items rest no_guard = ends_pattern (T.Mark (codes "->")) a _ refl refl refl
+behind-ends_pattern _ _ a ms items rest (when_guard w g i) = ends_pattern (T.Word (codes "when")) w _ refl refl refl
 
 -- a clause of a `case` is read rightly
 pub case_clause-right : (levels : ℕ) (l : Level) → IsLevel levels l → (ts : List Placed) → Right (IsRead IsCaseClause case_clause_tokens clause_deep levels ts) ts (read_case_clause l ts)
@@ -200,7 +204,7 @@ fun_text-behind ps ns c w items ms rest = append_assoc (listed pattern_tokens (T
 fun_deep : (o : Place) (ps : List (Node PatternKind)) (w : Option Guard) (items : List (Node ItemKind)) (ms : List Place) (levels : ℕ) → clause_deep (node o ms (clause_of ps w items)) levels ≡ deep_all pattern_deep ps levels ++ behind_deep w items levels
 fun_deep o ps w items ms levels = clause_kind_deep-clause_of ps w items levels
 
-fun_read : (levels : ℕ) (ts : List Placed) (o : Place × List Placed) (s : Several (Node PatternKind) × List Placed) (q : Measured (Node ClauseKind) × List Placed) → IsMarkNext (codes "(") ts o → ParametersRead levels o.1 s → BehindRead levels o.0 (o.0 ∷ s.0.marks) s.0.items s.0.height s.1 q → IsRead IsFunClause fun_clause_tokens clause_deep levels ts q
+fun_read : (levels : ℕ) (ts : List Placed) (o : Place × List Placed) (s : Several (Node PatternKind) × List Placed) (q : Measured (Node ClauseKind) × List Placed) → IsMarkNext (codes "(") ts o → ParametersRead IsPattern pattern_tokens pattern_deep levels o.1 s → BehindRead levels o.0 (o.0 ∷ s.0.marks) s.0.items s.0.height s.1 q → IsRead IsFunClause fun_clause_tokens clause_deep levels ts q
 fun_read levels ts o s q e h r =
     let ms : List Place = r.guard_marks ++ r.arrow ∷ r.body_marks in
     let items : List (Node ItemKind) = r.first ∷ r.others in
@@ -216,7 +220,7 @@ fun_read levels ts o s q e h r =
 -- a clause of a fun is read rightly
 pub fun_clause-right : (levels : ℕ) (l : Level) → IsLevel levels l → (ts : List Placed) → Right (IsRead IsFunClause fun_clause_tokens clause_deep levels ts) ts (read_fun_clause l ts)
 unfolding read_fun_clause
-fun_clause-right levels l L ts = right_then (expect_mark (codes "(") ts) λ o e. right_next (behind_token e) (parameter_list-right levels l L o.1) λ s h.
+fun_clause-right levels l L ts = right_then (expect_mark (codes "(") ts) λ o e. right_next (behind_part [] e) (patterns-right levels l L o.0 o.1) λ s h.
     right_behind (behind_behind (behind_token e) (behind_behind (behind_part _ h.takes) (behind_token refl)))
     (right_as (λ q r. fun_read levels ts o s q e h r) (behind_patterns-right levels l L o.0 (o.0 ∷ s.0.marks) s.0.items s.0.height s.1))
 
@@ -230,6 +234,6 @@ fun_clause-again levels l L _ rest (fun_clause o c a ps w ns ws ms i is n g x y 
     let all : List Place = o ∷ (ns ++ c ∷ bs) in
     again_from (ap (λ l2. read_fun_clause l (l2 ++ rest)) (fun_tokens o c ps ns w items bs g) ∙ ap (λ l2. read_fun_clause l (at (T.Mark (codes "(")) o ∷ l2)) (fun_text-behind ps ns c w items bs rest))
     (again_step _ (expect_mark-again (codes "(") o _)
-    (again_these _ (parameter_list-again levels l L ps ns c behind x g n) (λ q d. deeper_in q (fun_deep o ps w items all levels) (among_front q (deep_all pattern_deep ps levels) _ d)) λ h.
+    (again_these _ (patterns-again levels l L ps ns c behind x g n) (λ q d. deeper_in q (fun_deep o ps w items all levels) (among_front q (deep_all pattern_deep ps levels) _ d)) λ h.
     again_as (λ q r. (r.0, r.1 ∙ ap (λ m. (measured (node o (o ∷ m) (clause_of ps w items)) r.0, rest)) (append_assoc ns (c ∷ []) bs))) (λ q d. deeper_in q (fun_deep o ps w items all levels) (among_behind q (deep_all pattern_deep ps levels) _ d))
     (behind_patterns-again levels l L o (o ∷ (ns ++ c ∷ [])) ps h w ws a ms i is rest y k f e)))

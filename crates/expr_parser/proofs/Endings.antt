@@ -1,4 +1,4 @@
--- What may follow expressions, elements of bodies, qualifiers, associations, guards and patterns.
+-- What may follow expressions, elements of bodies, qualifiers, associations and guards.
 use Rattle.std.proofs.Common.{◌≡◌, ℕ, true, false, List, ◌∷◌, refl}
 use Rattle.std.specs.Prelude.{None, codes}
 use Rattle.erl_tree.specs.declared.token.Place.{Place}
@@ -6,19 +6,20 @@ use Rattle.erl_tree.specs.declared.token.Placed.{Placed}
 use Rattle.erl_tree.specs.declared.token.Token.{Token}
 use Rattle.erl_tree.specs.declared.token.Token.TheVariants as T
 use Rattle.erl_grammar.specs.Pieces.{at}
-use Rattle.expr_parser.specs.Tokens.{is_mark, mark, is_word, word, is_string, string_next, comparison_of, arithmetic_of, word_operator_of, operator_of, operator, is_bit_operator, outside_behind}
-use Rattle.expr_parser.specs.Scan.{bracket_sort, mark_sort, sort_of, over, leads}
-use Rattle.expr_parser.proofs.Levels.{EndsExpr, EndsPattern}
+use Rattle.token_readers.specs.Tokens.{is_mark, mark, word, is_string, comparison_of, arithmetic_of, word_operator_of, operator_of, is_bit_operator, outside_behind, is_word, string_next, operator, outside_behind_pattern}
+use Rattle.pattern_parser.specs.Scan.{bracket_sort, mark_sort, sort_of, over, leads, after_part}
+use Rattle.expr_parser.proofs.Levels.{EndsExpr}
+use Rattle.token_readers.proofs.Endings.{mark-none, word-none, operator-none, string-none}
 
 -- what may follow an element of a body
 pub record EndsItem (ts : List Placed) : Type 0 where
   pub ends_expr : EndsExpr ts
-  pub no_match : leads (codes "=") true 0 ts ≡ false
+  pub no_match : leads (codes "=") after_part 0 ts ≡ false
 
 -- what may follow a qualifier
 pub record EndsQualifier (ts : List Placed) : Type 0 where
   pub ends_expr : EndsExpr ts
-  pub no_generator : leads (codes "<-") true 0 ts ≡ false
+  pub no_generator : leads (codes "<-") after_part 0 ts ≡ false
 
 -- what may follow a body
 pub record EndsBody (ts : List Placed) : Type 0 where
@@ -43,25 +44,7 @@ pub record EndsWhen (ts : List Placed) : Type 0 where
 
 -- ---- single tokens
 
--- another mark comes next
-pub mark-none : (text : List ℕ) (k : Token) (p : Place) (ts : List Placed) → is_mark text k ≡ false → mark text (at k p ∷ ts) ≡ None
-unfolding mark
-mark-none text k p ts e = rw e refl
-
--- another reserved word comes next, or none
-pub word-none : (text : List ℕ) (k : Token) (p : Place) (ts : List Placed) → is_word text k ≡ false → word text (at k p ∷ ts) ≡ None
-unfolding word
-word-none text k p ts e = rw e refl
-
-operator-none : (k : Token) (p : Place) (ts : List Placed) → operator_of k ≡ None → operator (at k p ∷ ts) ≡ None
-unfolding operator
-operator-none k p ts e = rw e refl
-
-string-none : (k : Token) (p : Place) (ts : List Placed) → is_string k ≡ false → string_next (at k p ∷ ts) ≡ false
-unfolding string_next
-string-none k p ts e = e
-
-leads-none : (ending : List ℕ) (k : Token) (p : Place) (ts : List Placed) → is_mark ending k ≡ false → over (sort_of k) true 0 ≡ None → leads ending true 0 (at k p ∷ ts) ≡ false
+leads-none : (ending : List ℕ) (k : Token) (p : Place) (ts : List Placed) → is_mark ending k ≡ false → over (sort_of k) after_part 0 ≡ None → leads ending after_part 0 (at k p ∷ ts) ≡ false
 unfolding leads
 leads-none ending k p ts e o = rw (e, o) refl
 
@@ -75,7 +58,7 @@ pub record Closes (k : Token) : Type 0 where
   pub none_behind : outside_behind k ≡ None
   pub no_match : is_mark (codes "=") k ≡ false
   pub no_generator : is_mark (codes "<-") k ≡ false
-  pub stands : over (sort_of k) true 0 ≡ None
+  pub stands : over (sort_of k) after_part 0 ≡ None
 
 pub closes-expr : {k : Token} → Closes k → (p : Place) (ts : List Placed) → EndsExpr (at k p ∷ ts)
 closes-expr {k} c p ts = record {
@@ -157,13 +140,10 @@ after-closes = record { no_call = refl; no_hash = refl; no_colon = refl; no_stri
 pub end_of_text-closes : Closes T.End
 end_of_text-closes = record { no_call = refl; no_hash = refl; no_colon = refl; no_string = refl; no_operator = refl; none_behind = refl; no_match = refl; no_generator = refl; stands = refl }
 
--- ---- what may follow guards and patterns
+-- ---- what may follow guards
 
 pub arrow-ends_guard : (p : Place) (ts : List Placed) → EndsGuard (at (T.Mark (codes "->")) p ∷ ts)
 arrow-ends_guard p ts = record { ends_expr = closes-expr arrow-closes p ts; no_comma = mark-none _ _ p ts refl; no_semicolon = mark-none _ _ p ts refl }
 
 pub arrow-ends_when : (p : Place) (ts : List Placed) → EndsWhen (at (T.Mark (codes "->")) p ∷ ts)
 arrow-ends_when p ts = record { ends_guard = arrow-ends_guard p ts; no_when = word-none _ _ p ts refl }
-
-pub ends_pattern : (k : Token) (p : Place) (ts : List Placed) → is_mark (codes "=") k ≡ false → is_mark (codes "++") k ≡ false → EndsPattern (at k p ∷ ts)
-ends_pattern k p ts e a = record { no_equals = mark-none _ k p ts e; no_append = mark-none _ k p ts a }

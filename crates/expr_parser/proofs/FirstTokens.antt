@@ -16,7 +16,7 @@ use Rattle.erl_grammar.specs.Spelling.{expr_tokens}
 use Rattle.erl_grammar.specs.Nesting.{expr_deep}
 use Rattle.erl_grammar.specs.Grammar.{node, IsExpr, operation, unary, postfix, IsPostfix, atom, integer, character, string, variable, parens, tuple, list, cells, comprehension, call, prefixed_call, variable_applied, parens_applied, new_map, changed_map, new_record, changed_record, record_field, begin_end, case_of, if_end, fun_name, fun_end, try_end}
 use Rattle.erl_grammar.proofs.SpellingLaws.{expr_shown-Atom, expr_shown-Int, expr_shown-Char, expr_shown-Str, expr_shown-Var, expr_shown-Paren, expr_shown-Tuple, expr_shown-Cells, expr_shown-Comp, expr_shown-Unary, expr_shown-Binary, expr_shown-Call, expr_shown-Apply, expr_shown-MapNew, expr_shown-MapChange, expr_shown-RecNew, expr_shown-RecChange, expr_shown-RecGet, expr_shown-Begin, expr_shown-Case, expr_shown-If, expr_shown-FunName, expr_shown-Fun, expr_shown-Try}
-use Rattle.expr_parser.specs.Tokens.{first_place, is_mark, mark, sign_of, sign}
+use Rattle.token_readers.specs.Tokens.{first_place, is_mark, mark, sign_of, sign}
 use Rattle.expr_parser.specs.Operations.{Expr}
 
 -- a token that begins an expression without operators

@@ -14,19 +14,20 @@ use Rattle.erl_grammar.specs.Spelling.{expr_tokens, expr_guard_tokens, optional_
 use Rattle.erl_grammar.specs.Nesting.{Deep, deep_all, deep_optional, deep_guard, expr_deep}
 use Rattle.erl_grammar.specs.Guards.{misfit, IsGuardExpr}
 use Rattle.erl_grammar.specs.Grammar.{node, AreSeparators, all_of, NoneEmpty, IsExpr, IsGuard, guard, IsWhen, no_guard, when_guard}
-use Rattle.expr_parser.specs.declared.height.Height.{Height}
-use Rattle.expr_parser.specs.declared.height.Measured.{Measured}
-use Rattle.expr_parser.specs.Heights.{flat, measured}
-use Rattle.expr_parser.specs.Tokens.{Answer, ◌>>=◌, first_place}
-use Rattle.expr_parser.specs.Outside.{HasOutside, IsOutside, guard_call}
+use Rattle.token_readers.specs.declared.height.Height.{Height}
+use Rattle.token_readers.specs.declared.height.Measured.{Measured}
+use Rattle.token_readers.specs.Heights.{flat, measured}
+use Rattle.token_readers.specs.Tokens.{Answer, ◌>>=◌, first_place}
+use Rattle.token_readers.specs.Outside.{HasOutside, IsOutside, guard_call}
 use Rattle.expr_parser.specs.Expressions.{Level, Guarded, no_tests, with_test, with_comma, completed, with_semicolon, fitting, read_test, read_tests, Guard, read_guard, When, read_when}
-use Rattle.expr_parser.proofs.Right.{Measures}
-use Rattle.expr_parser.proofs.HeightLaws.{among_front, among_behind, measures_as, nothing_measured, both_measured, higher_within}
-use Rattle.expr_parser.proofs.Then.{behind_token, behind_part, behind_behind, Right, right_ok, right_fault, right_outside, right_as, right_behind, right_then, right_next, right_case, IsRead, Again, again_ok, again_as, again_from, again_then, again_none, again_some, IsPart, IsDeep, again_read}
-use Rattle.expr_parser.proofs.TokenLaws.{IsMarkNext, mark-again, mark-takes, IsWordNext, word-again, word-takes}
+use Rattle.token_readers.proofs.Right.{Measures}
+use Rattle.token_readers.proofs.HeightLaws.{among_front, among_behind, measures_as, nothing_measured, both_measured, higher_within}
+use Rattle.token_readers.proofs.Then.{behind_token, behind_part, behind_behind, Right, right_ok, right_fault, right_outside, right_as, right_behind, right_then, right_next, right_case, IsRead, Again, again_ok, again_as, again_from, again_then, again_none, again_some, IsPart, IsDeep, again_read}
+use Rattle.token_readers.proofs.TokenLaws.{IsMarkNext, mark-again, mark-takes, IsWordNext, word-again, word-takes}
 use Rattle.expr_parser.proofs.Levels.{EndsExpr, IsLevel}
 use Rattle.expr_parser.proofs.FirstTokens.{expr_first_place}
-use Rattle.expr_parser.proofs.Endings.{EndsGuard, EndsWhen, closes-expr, comma-closes, semicolon-closes, mark-none}
+use Rattle.expr_parser.proofs.Endings.{EndsGuard, EndsWhen, closes-expr, comma-closes, semicolon-closes}
+use Rattle.token_readers.proofs.Endings.{mark-none}
 use Rattle.expr_parser.proofs.ItemLaws.{two_parts, parts_behind, deeper_in}
 
 abbrev Expr : Type 0

@@ -1,6 +1,7 @@
 -- Expressions without operators, with what may follow them: what is said of their readers, and how a node is made of its parts.
-use Rattle.std.proofs.Common.{◌≡◌, ℕ, suc, ◌≤◌, false, List, [], ◌∷◌, ◌++◌, map, refl, ap, sym, ◌∙◌, subst, append_assoc}
+use Rattle.std.proofs.Common.{◌≡◌, ℕ, suc, ◌≤◌, Bool, true, false, List, [], ◌∷◌, ◌++◌, map, refl, ap, sym, ◌∙◌, subst, append_assoc}
 use Rattle.std.specs.Prelude.{None, Ok, Err, codes}
+use Rattle.erl_tree.specs.Lists.{Among}
 use Rattle.erl_tree.specs.declared.token.Place.{Place}
 use Rattle.erl_tree.specs.declared.token.Placed.{Placed}
 use Rattle.erl_tree.specs.declared.token.Token.{Token}
@@ -11,18 +12,19 @@ use Rattle.erl_grammar.specs.Pieces.{at, own, fill, separated}
 use Rattle.erl_grammar.specs.Spelling.{expr_shown, expr_tokens}
 use Rattle.erl_grammar.specs.Nesting.{expr_kind_deep, expr_deep}
 use Rattle.erl_grammar.specs.Grammar.{node, AreSeparators, IsPostfix}
-use Rattle.expr_parser.specs.declared.height.Height.{Height}
-use Rattle.expr_parser.specs.declared.fault.ParseFault.{ParseFault}
-use Rattle.expr_parser.specs.declared.fault.ParseFault.TheVariants as faults
-use Rattle.expr_parser.specs.Heights.{measured}
-use Rattle.expr_parser.specs.Tokens.{Answer, mark, string_next}
-use Rattle.expr_parser.specs.Patterns.{built}
+use Rattle.token_readers.specs.declared.height.Height.{Height}
+use Rattle.token_readers.specs.declared.height.Measured.{Measured}
+use Rattle.token_readers.specs.declared.fault.ParseFault.{ParseFault}
+use Rattle.token_readers.specs.declared.fault.ParseFault.TheVariants as faults
+use Rattle.token_readers.specs.Heights.{measured}
+use Rattle.token_readers.specs.Tokens.{Answer, mark, string_next}
+use Rattle.token_readers.specs.Parts.{built}
 use Rattle.expr_parser.specs.Operations.{Expr}
 use Rattle.expr_parser.specs.Expressions.{Headed}
-use Rattle.expr_parser.proofs.Right.{Measures}
-use Rattle.expr_parser.proofs.HeightLaws.{node_measured, above_within}
-use Rattle.expr_parser.proofs.Then.{Right, Again, AgainBy, again_ok}
-use Rattle.expr_parser.proofs.PartLaws.{listed, fill-listed}
+use Rattle.token_readers.proofs.Right.{Measures}
+use Rattle.token_readers.proofs.HeightLaws.{node_measured, above_within}
+use Rattle.token_readers.proofs.Then.{Right, Again, AgainBy, again_ok, IsDeep}
+use Rattle.token_readers.proofs.PartLaws.{listed, fill-listed}
 use Rattle.expr_parser.proofs.Levels.{EndsPostfix}
 
 -- an expression without operators was read, with at most so many levels, and what may follow it

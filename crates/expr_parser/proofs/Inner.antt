@@ -1,14 +1,20 @@
 -- What is said of the readers of elements of bodies, qualifiers, associations and clauses of one level, and of the readers of several levels.
-use Rattle.std.specs.Prelude.{ℕ, List, [], ◌∷◌, ◌++◌, length, Bool}
+use Rattle.std.specs.Prelude.{◌≡◌, ℕ, List, [], ◌∷◌, ◌++◌, length, Bool}
 use Rattle.erl_tree.specs.declared.token.Placed.{Placed}
+use Rattle.erl_tree.specs.declared.token.Node.{Node}
+use Rattle.erl_tree.specs.declared.expr.ItemKind.{ItemKind}
+use Rattle.erl_tree.specs.declared.expr.ClauseKind.{ClauseKind}
+use Rattle.erl_tree.specs.declared.expr.QualifierKind.{QualifierKind}
+use Rattle.erl_tree.specs.declared.expr.AssocKind.{AssocKind}
+use Rattle.erl_tree.specs.declared.expr.CatchKind.{CatchKind}
 use Rattle.erl_grammar.specs.Spelling.{item_tokens, qualifier_tokens, assoc_tokens, catch_tokens, expr_field_tokens, case_clause_tokens, if_clause_tokens, fun_clause_tokens}
 use Rattle.erl_grammar.specs.Nesting.{Deep, deep_second, expr_deep, item_deep, qualifier_deep, assoc_deep, catch_deep, clause_deep}
 use Rattle.erl_grammar.specs.Grammar.{IsItem, IsQualifier, IsAssoc, IsField, IsCaseClause, IsIfClause, IsFunClause, IsCatch}
-use Rattle.expr_parser.specs.declared.height.Measured.{Measured}
-use Rattle.expr_parser.specs.Tokens.{Reads}
-use Rattle.expr_parser.specs.Parts.{read_field}
+use Rattle.token_readers.specs.declared.height.Measured.{Measured}
+use Rattle.token_readers.specs.Tokens.{Answer, Reads}
+use Rattle.token_readers.specs.Parts.{read_field}
 use Rattle.expr_parser.specs.Expressions.{Level, read_item, read_qualifier, read_assoc, read_case_clause, read_if_clause, read_fun_clause, read_catch}
-use Rattle.expr_parser.proofs.Then.{Right, Again, IsRead, IsPart, IsDeep}
+use Rattle.token_readers.proofs.Then.{Right, Again, IsRead, IsPart, IsDeep}
 use Rattle.expr_parser.proofs.Levels.{EndsExpr, IsLevel}
 use Rattle.expr_parser.proofs.Endings.{EndsItem, EndsQualifier, EndsAssoc, EndsBody}
 

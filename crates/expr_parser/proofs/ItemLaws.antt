@@ -1,6 +1,6 @@
 -- Elements of bodies, qualifiers and associations: what is read is right, and what is well formed is read again.
 use Rattle.std.proofs.Common.{◌≡◌, ℕ, Bool, true, false, List, [], ◌∷◌, ◌++◌, refl, ap, sym, ◌∙◌, subst, append_assoc, append-nil}
-use Rattle.std.specs.Prelude.{Ok, codes}
+use Rattle.std.specs.Prelude.{codes}
 use Rattle.erl_tree.specs.Lists.{Among}
 use Rattle.erl_tree.specs.declared.token.Place.{Place}
 use Rattle.erl_tree.specs.declared.token.Placed.{Placed}
@@ -19,19 +19,21 @@ use Rattle.erl_grammar.specs.Nesting.{pattern_deep, expr_deep, item_deep, qualif
 use Rattle.erl_grammar.specs.Grammar.{node, IsPattern, IsExpr, IsItem, value, match_item, IsQualifier, generator, filter, assoc_of, IsAssoc, added, exact}
 use Rattle.erl_grammar.proofs.SpellingLaws.{item_shown-Value, item_shown-Match, qualifier_shown-Generator, qualifier_shown-Filter, assoc_shown-assoc_of}
 use Rattle.erl_grammar.proofs.NestingLaws.{item_kind_deep-Value, item_kind_deep-Match, qualifier_kind_deep-Generator, qualifier_kind_deep-Filter, assoc_kind_deep-assoc_of}
-use Rattle.expr_parser.specs.declared.height.Height.{Height}
-use Rattle.expr_parser.specs.declared.height.Measured.{Measured}
-use Rattle.expr_parser.specs.Heights.{higher, measured}
-use Rattle.expr_parser.specs.Tokens.{Answer, ◌>>=◌}
-use Rattle.expr_parser.specs.Outside.{HasOutside, IsOutside, map_comprehension}
-use Rattle.expr_parser.specs.Expressions.{Level, read_item, read_qualifier, read_arrow, read_assoc}
-use Rattle.expr_parser.proofs.HeightLaws.{among_front, among_behind, measures_as, both_measured, higher_within}
-use Rattle.expr_parser.proofs.Then.{behind_token, behind_part, behind_behind, Right, right_ok, right_fault, right_outside, right_behind, right_then, right_next, right_case, right_if, IsRead, Again, again_ok, again_from, again_then, again_step, again_none, again_true, again_false, IsPart, IsDeep, again_read}
-use Rattle.expr_parser.proofs.TokenLaws.{IsMarkNext, mark-takes, mark-again, expect_mark, expect_mark-again}
-use Rattle.expr_parser.proofs.Levels.{EndsExpr, LeftRead, IsLeft, IsLevel}
-use Rattle.expr_parser.proofs.ScanLaws.{pattern-leads_to_equals, pattern-leads_to_arrow}
+use Rattle.token_readers.specs.declared.height.Height.{Height}
+use Rattle.token_readers.specs.declared.height.Measured.{Measured}
+use Rattle.token_readers.specs.Heights.{higher, measured}
+use Rattle.token_readers.specs.Tokens.{Answer, ◌>>=◌}
+use Rattle.token_readers.specs.Outside.{HasOutside, map_comprehension}
+use Rattle.expr_parser.specs.Expressions.{Level, read_item, read_qualifier, read_assoc}
+use Rattle.token_readers.proofs.HeightLaws.{among_front, among_behind, measures_as, both_measured, higher_within}
+use Rattle.token_readers.proofs.Then.{behind_token, behind_part, behind_behind, Right, right_ok, right_outside, right_then, right_next, right_case, right_if, IsRead, Again, again_ok, again_from, again_then, again_step, again_none, again_true, again_false, IsPart, IsDeep, again_read}
+use Rattle.token_readers.proofs.ArrowLaws.{ArrowRead, arrow-right, arrow-again}
+use Rattle.token_readers.proofs.TokenLaws.{IsMarkNext, mark-takes, expect_mark, expect_mark-again}
+use Rattle.expr_parser.proofs.Levels.{EndsExpr, IsLevel}
+use Rattle.pattern_parser.proofs.PatternEnds.{LeftRead, IsLeft, ends_pattern}
+use Rattle.pattern_parser.proofs.ScanLaws.{pattern-leads_to_equals, pattern-leads_to_arrow}
 use Rattle.expr_parser.proofs.ScanExprLaws.{no_equals_in, no_arrow_in}
-use Rattle.expr_parser.proofs.Endings.{EndsItem, EndsQualifier, EndsAssoc, adds-closes, exact-closes, closes-expr, mark-none, ends_pattern}
+use Rattle.expr_parser.proofs.Endings.{EndsItem, EndsQualifier, EndsAssoc, adds-closes, exact-closes, closes-expr}
 
 -- ---- elements of bodies
 
@@ -103,20 +105,6 @@ qualifier-right levels l L ts = right_if
 
 -- ---- associations
 
--- an arrow was read, which may be `:=` where that may stand
-pub record ArrowRead (may_be_exact : Bool) (ts : List Placed) (q : (Bool × Place) × List Placed) : Type 0 where
-  pub takes : ts ≡ at (T.Mark (association_text q.0.0)) q.0.1 ∷ q.1
-  pub allowed : q.0.0 ≡ true → may_be_exact ≡ true
-
--- what stands between a key and its value is read rightly
-pub arrow-right : (may_be_exact : Bool) (ts : List Placed) → Right (ArrowRead may_be_exact ts) ts (read_arrow may_be_exact ts)
-unfolding read_arrow
-arrow-right may_be_exact ts = right_case
-    (λ e. right_if
-    (λ f. right_then (expect_mark (codes ":=") ts) λ m i. right_ok (record { takes = i; allowed = λ g. f }))
-    (λ f. right_fault tt))
-    (λ m e. right_ok (record { takes = mark-takes (codes "=>") ts m e; allowed = λ g. absurd cc }))
-
 association_tokens : (k v : Node ExprKind) (b : Bool) (m : Place) → assoc_tokens (node k.place (m ∷ []) (assoc_of k b v)) ≡ expr_tokens k ++ at (T.Mark (association_text b)) m ∷ expr_tokens v
 association_tokens k v b m = assoc_shown-assoc_of k b v (m ∷ []) ∙ ap (λ l. expr_tokens k ++ at (T.Mark (association_text b)) m ∷ l) (append-nil (expr_tokens v))
 
@@ -133,8 +121,9 @@ assoc_read levels may_be_exact ts k a v h i g = record {
   within = higher_within k.0.height v.0.height levels h.within g.within;
 }
 
-qualifiers_stand : (ts : List Placed) (m : Place × List Placed) → IsMarkNext (codes "||") ts m → HasOutside ts m.0 (codes "map comprehension")
-qualifiers_stand ts m e = record { before = []; rest = ts; split = refl; stands = subst (IsOutside (codes "map comprehension") m.0 []) (sym e) (map_comprehension m.0 [] m.1) }
+-- `||` stands behind an association
+qualifiers_stand : (may_be_exact : Bool) (n : Node AssocKind) (ts us : List Placed) (m : Place × List Placed) → IsAssoc may_be_exact n → ts ≡ assoc_tokens n ++ us → IsMarkNext (codes "||") us m → HasOutside ts m.0 (codes "map comprehension")
+qualifiers_stand may_be_exact n ts us m i t e = record { before = assoc_tokens n; rest = at (T.Mark (codes "||")) m.0 ∷ m.1; split = t ∙ ap (λ l. assoc_tokens n ++ l) e; stands = map_comprehension may_be_exact n m.0 [] m.1 i }
 
 -- an association is read rightly
 pub assoc-right : (levels : ℕ) (l : Level) → IsLevel levels l → (may_be_exact : Bool) (ts : List Placed) → Right (IsRead (IsAssoc may_be_exact) assoc_tokens assoc_deep levels ts) ts (read_assoc l may_be_exact ts)
@@ -143,7 +132,7 @@ assoc-right levels l L may_be_exact ts = right_then (L.expr_right ts) λ k h. ri
     let b = behind_behind (behind_part (expr_tokens k.0.tree) h.takes) (behind_token i.takes) in
     right_next b (L.expr_right a.1) λ v g. right_case
     (λ e. right_ok (assoc_read levels may_be_exact ts k a v h i g))
-    (λ m e. right_behind (behind_behind b (behind_part (expr_tokens v.0.tree) g.takes)) (right_outside (qualifiers_stand v.1 m (mark-takes (codes "||") v.1 m e))))
+    (λ m e. let r = assoc_read levels may_be_exact ts k a v h i g in right_outside (qualifiers_stand may_be_exact _ ts v.1 m r.formed r.takes (mark-takes (codes "||") v.1 m e)))
 
 -- ---- read again
 
@@ -178,15 +167,9 @@ qualifier-again levels l L _ rest (filter e i) f = again_from (ap (λ ts. read_q
     (again_false _ (no_arrow_in e rest i f.no_generator) (again_read _ (L.expr_again e rest i f.ends_expr) (λ p d. deeper_in p (qualifier_kind_deep-Filter e levels) d) λ h. again_ok (h, refl)))
 qualifier-again levels l L _ rest (generator p e m i j) f = again_from (ap (read_qualifier l) (parts_behind _ (pattern_tokens p) (expr_tokens e) rest _ (generator_tokens p e m)))
     (again_true _ (pattern-leads_to_arrow i m (expr_tokens e ++ rest))
-    (again_read _ (L.pattern_again p _ i (ends_pattern _ m (expr_tokens e ++ rest) refl refl)) (λ q d. deeper_in q (qualifier_kind_deep-Generator p e levels) (among_front q (pattern_deep p levels) _ d)) λ h.
+    (again_read _ (L.pattern_again p _ i (ends_pattern _ m (expr_tokens e ++ rest) refl refl refl)) (λ q d. deeper_in q (qualifier_kind_deep-Generator p e levels) (among_front q (pattern_deep p levels) _ d)) λ h.
     again_step _ (expect_mark-again (codes "<-") m (expr_tokens e ++ rest))
     (again_read _ (L.expr_again e rest j f.ends_expr) (λ q d. deeper_in q (qualifier_kind_deep-Generator p e levels) (among_behind q (pattern_deep p levels) _ d)) λ k. again_ok (higher h k, refl))))
-
--- `=>` and `:=` are read again
-pub arrow-again : (may_be_exact is_exact : Bool) (m : Place) (ts : List Placed) → (is_exact ≡ true → may_be_exact ≡ true) → read_arrow may_be_exact (at (T.Mark (association_text is_exact)) m ∷ ts) ≡ Ok ((is_exact, m), ts)
-unfolding read_arrow
-arrow-again may_be_exact false m ts e = rw (mark-again (codes "=>") m ts) refl
-arrow-again may_be_exact true m ts e = rw (mark-none (codes "=>") (T.Mark (codes ":=")) m ts refl, e refl, expect_mark-again (codes ":=") m ts) refl
 
 -- a key and its value are read again
 association-again : (levels : ℕ) (l : Level) → IsLevel levels l → (may_be_exact is_exact : Bool) (k v : Node ExprKind) (m : Place) (rest : List Placed) → (is_exact ≡ true → may_be_exact ≡ true) → IsExpr 0 k → IsExpr 0 v → EndsExpr (at (T.Mark (association_text is_exact)) m ∷ (expr_tokens v ++ rest)) → EndsAssoc rest

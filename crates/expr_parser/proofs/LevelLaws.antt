@@ -1,18 +1,26 @@
 -- The readers of all levels: each reads what is nested at most so many levels deep.
 use Rattle.std.proofs.Common.{◌≡◌, ℕ, zero, suc, List, [], ◌∷◌, ◌++◌, length, refl, ap, sym, subst}
-use Rattle.std.specs.Prelude.{drop}
+use Rattle.std.specs.Prelude.{drop, false, codes}
+use Rattle.erl_tree.specs.declared.token.Place.{Place}
 use Rattle.erl_tree.specs.declared.token.Placed.{Placed}
-use Rattle.erl_grammar.specs.Spelling.{expr_tokens}
-use Rattle.erl_grammar.specs.Nesting.{expr_deep}
-use Rattle.erl_grammar.specs.Grammar.{IsExpr}
+use Rattle.erl_tree.specs.declared.token.Node.{Node}
+use Rattle.erl_tree.specs.declared.token.Token.TheVariants as T
+use Rattle.erl_tree.specs.declared.pattern.PatternKind.{PatternKind}
+use Rattle.erl_grammar.specs.Pieces.{at}
+use Rattle.erl_grammar.specs.Spelling.{pattern_tokens, expr_tokens}
+use Rattle.erl_grammar.specs.Nesting.{pattern_deep, expr_deep}
+use Rattle.erl_grammar.specs.Grammar.{IsPattern, IsExpr}
+use Rattle.pattern_parser.specs.Scan.{leads_to}
+use Rattle.pattern_parser.specs.Patterns.{read_pattern, pattern_levels, read_left}
 use Rattle.expr_parser.specs.Operations.{Expr, read_expr_with}
 use Rattle.expr_parser.specs.Expressions.{Level, level_of, expr_levels, read_expr, read_postfix}
-use Rattle.expr_parser.proofs.Then.{Right, Again, IsRead, IsPart, IsDeep}
+use Rattle.token_readers.proofs.Then.{Right, Again, IsRead, IsPart, IsDeep}
 use Rattle.expr_parser.proofs.OperationLaws.{read_expr_with-right}
 use Rattle.expr_parser.proofs.OperationsAgain.{read_expr_with-again}
 use Rattle.expr_parser.proofs.Levels.{EndsExpr, IsLevel}
-use Rattle.expr_parser.proofs.Inner.{AreLevels}
-use Rattle.expr_parser.proofs.PatternLaws.{read_pattern-right, read_pattern-again, read_left_levels-right, read_left_levels-again}
+use Rattle.pattern_parser.proofs.PatternEnds.{EndsPattern, LeftRead, IsLeft}
+use Rattle.expr_parser.proofs.Inner.{AreParts, AreLevels}
+use Rattle.pattern_parser.proofs.PatternLaws.{read_pattern-right, read_pattern-again, read_left_levels-right, read_left_levels-again}
 use Rattle.expr_parser.proofs.PostfixLaws.{read_postfix-right}
 use Rattle.expr_parser.proofs.PostfixAgain.{read_postfix-again}
 

@@ -1,4 +1,4 @@
--- What is said of the readers of one level, and what may follow a part.
+-- What is said of the readers of one level, and what may follow an expression.
 use Rattle.std.specs.Prelude.{◌≡◌, ℕ, List, ◌∷◌, ◌++◌, None, false, codes}
 use Rattle.erl_tree.specs.declared.token.Place.{Place}
 use Rattle.erl_tree.specs.declared.token.Placed.{Placed}
@@ -10,13 +10,12 @@ use Rattle.erl_grammar.specs.Pieces.{at}
 use Rattle.erl_grammar.specs.Spelling.{pattern_tokens, expr_tokens}
 use Rattle.erl_grammar.specs.Nesting.{pattern_deep, expr_deep}
 use Rattle.erl_grammar.specs.Grammar.{IsPattern, IsExpr}
-use Rattle.expr_parser.specs.declared.height.Measured.{Measured}
-use Rattle.expr_parser.specs.Tokens.{operator, mark, string_next}
-use Rattle.expr_parser.specs.Scan.{leads_to}
+use Rattle.token_readers.specs.Tokens.{operator, mark, string_next, outside_next}
+use Rattle.pattern_parser.specs.Scan.{leads_to}
 use Rattle.expr_parser.specs.Expressions.{Level}
-use Rattle.expr_parser.proofs.Right.{Read}
-use Rattle.expr_parser.proofs.Then.{Right, Again, IsRead, IsPart, IsDeep}
-use Rattle.expr_parser.proofs.TokenLaws.{NoneBehind}
+use Rattle.token_readers.proofs.Then.{Right, Again, IsRead, IsPart, IsDeep}
+use Rattle.token_readers.proofs.TokenLaws.{NoneBehind}
+use Rattle.pattern_parser.proofs.PatternEnds.{EndsPattern, LeftRead, IsLeft}
 
 -- what may follow an expression without operators: no call, no part of a map or a record, no prefix, no string
 pub record EndsPostfix (ts : List Placed) : Type 0 where
@@ -30,19 +29,6 @@ pub record EndsExpr (ts : List Placed) : Type 0 where
   pub ends_postfix : EndsPostfix ts
   pub no_operator : operator ts ≡ None
   pub none_behind : NoneBehind ts
-
--- what may follow a pattern
-pub record EndsPattern (ts : List Placed) : Type 0 where
-  pub no_equals : mark (codes "=") ts ≡ None
-  pub no_append : mark (codes "++") ts ≡ None
-
--- the left side of a match was read, and the place of its `=`
-pub record LeftRead (levels : ℕ) (ts : List Placed) (q : (Measured (Node PatternKind) × Place) × List Placed) : Type 0 where
-  pub read : Read IsPattern pattern_tokens pattern_deep levels ts q.0.0 (at (T.Mark (codes "=")) q.0.1 ∷ q.1)
-
--- the left side of a match is read again
-abbrev pub IsLeft : Node PatternKind → Place → List Placed → (Measured (Node PatternKind) × Place) × List Placed → Type 0
-IsLeft p m rest q = IsPart p rest (q.0.0, q.1) × (q.0.1 ≡ m)
 
 -- the readers of a level read what is nested at most so many levels deep
 pub record IsLevel (levels : ℕ) (l : Level) : Type 0 where

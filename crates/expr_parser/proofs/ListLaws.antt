@@ -1,35 +1,37 @@
 -- Lists and comprehensions.
-use Rattle.std.proofs.Common.{◌≡◌, ℕ, zero, suc, List, [], ◌∷◌, ◌++◌, map, length, refl, ap, sym, ◌∙◌, subst, inl, inr, append_assoc, arith}
-use Rattle.std.specs.Prelude.{Option, Some, None, codes}
+use Rattle.std.proofs.Common.{◌≡◌, ℕ, zero, suc, ◌-◌, ◌≤◌, List, [], ◌∷◌, ◌++◌, map, length, refl, ap, sym, ◌∙◌, subst, inl, inr, append_assoc, append-nil, arith}
+use Rattle.std.specs.Prelude.{Option, Some, None, Ok, Err, codes}
 use Rattle.std.proofs.lemmas.List.{length-map}
 use Rattle.erl_tree.specs.Lists.{Among}
 use Rattle.erl_tree.specs.declared.token.Place.{Place}
 use Rattle.erl_tree.specs.declared.token.Placed.{Placed}
 use Rattle.erl_tree.specs.declared.token.Node.{Node}
 use Rattle.erl_tree.specs.declared.token.Token.TheVariants as T
+use Rattle.erl_tree.specs.declared.expr.ExprKind.{ExprKind}
 use Rattle.erl_tree.specs.declared.expr.ExprKind.TheVariants as X
 use Rattle.erl_tree.specs.declared.expr.QualifierKind.{QualifierKind}
 use Rattle.erl_grammar.specs.declared.head.Head.TheVariants.{Plain}
-use Rattle.erl_grammar.specs.Pieces.{at, fill}
+use Rattle.erl_grammar.specs.Pieces.{at, own, inner, fill, commas}
 use Rattle.erl_grammar.specs.Spelling.{expr_shown, expr_tokens, qualifier_tokens, tail_pieces}
-use Rattle.erl_grammar.specs.Nesting.{expr_kind_deep, expr_deep, qualifier_deep}
+use Rattle.erl_grammar.specs.Nesting.{deep_all, expr_kind_deep, expr_deep, qualifier_deep}
 use Rattle.erl_grammar.specs.Grammar.{node, AreSeparators, IsExpr, IsPostfix, list, cells, comprehension, IsQualifier}
 use Rattle.erl_grammar.proofs.SpellingLaws.{expr_shown-Cells, expr_shown-Comp}
 use Rattle.erl_grammar.proofs.NestingLaws.{expr_kind_deep-Cells, expr_kind_deep-Comp}
-use Rattle.expr_parser.specs.declared.height.Measured.{Measured}
-use Rattle.expr_parser.specs.Heights.{flat, higher}
-use Rattle.expr_parser.specs.Parts.{Several, Cells, no_parts, with_part}
-use Rattle.expr_parser.specs.Patterns.{built}
+use Rattle.token_readers.specs.declared.height.Height.{Height}
+use Rattle.token_readers.specs.declared.height.Measured.{Measured}
+use Rattle.token_readers.specs.Heights.{flat, higher}
+use Rattle.token_readers.specs.Tokens.{Answer, Reads, ◌>>=◌, in_case, expect, mark}
+use Rattle.token_readers.specs.Parts.{Several, Cells, no_parts, with_part, read_parts, read_cells, built}
 use Rattle.expr_parser.specs.Operations.{Expr}
-use Rattle.expr_parser.specs.Expressions.{Level, read_qualifier, expr_readers, read_comprehension, read_list}
-use Rattle.expr_parser.proofs.Right.{Read}
-use Rattle.expr_parser.proofs.HeightLaws.{measures_as, nothing_measured, both_measured, higher_within}
-use Rattle.expr_parser.proofs.Then.{Behind, behind_token, behind_part, behind_behind, Right, right_ok, right_next, right_case, IsRead}
-use Rattle.expr_parser.proofs.TokenLaws.{IsMarkNext, mark-takes, expect_mark}
-use Rattle.expr_parser.proofs.PartLaws.{separated-each_behind, listed, AreRead, read_parts-right, deep_behind, deep_cells-first, IsTail, cells_behind, CellsRead, AreRight, read_cells-right}
+use Rattle.expr_parser.specs.Expressions.{Level, Headed, read_qualifier, expr_readers, read_comprehension, read_list}
+use Rattle.token_readers.proofs.Right.{Measures, Read}
+use Rattle.token_readers.proofs.HeightLaws.{measures_as, nothing_measured, both_measured, higher_within}
+use Rattle.token_readers.proofs.Then.{Behind, behind_none, behind_token, behind_part, behind_behind, Right, right_ok, right_next, right_case, IsRead}
+use Rattle.token_readers.proofs.TokenLaws.{IsMarkNext, mark-takes, expect_mark}
+use Rattle.token_readers.proofs.PartLaws.{separated-each_behind, listed, fill-listed, AreRead, read_parts-right, deep_behind, deep_cells-first, IsTail, cells_behind, CellsRead, AreRight, read_cells-right}
 use Rattle.expr_parser.proofs.Levels.{IsLevel}
-use Rattle.expr_parser.proofs.Inner.{AreParts, AreLevels}
-use Rattle.expr_parser.proofs.Heads.{HeadedRead, headed_read, listed_closed}
+use Rattle.expr_parser.proofs.Inner.{ReadsRightly, AreParts, AreLevels}
+use Rattle.expr_parser.proofs.Heads.{HeadedRead, headed_read, listed_closed, right_tokens}
 
 -- ---- cells
 

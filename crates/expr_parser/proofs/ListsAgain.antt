@@ -1,32 +1,36 @@
 -- Lists and comprehensions are read again.
-use Rattle.std.proofs.Common.{◌≡◌, ℕ, zero, List, [], ◌∷◌, ◌++◌, length, refl, sym, ◌∙◌, subst, inl, inr}
-use Rattle.std.specs.Prelude.{Option, Some, None, codes}
+use Rattle.std.proofs.Common.{◌≡◌, ℕ, zero, suc, List, [], ◌∷◌, ◌++◌, map, length, refl, ap, sym, ◌∙◌, subst, inl, inr, append_assoc}
+use Rattle.std.specs.Prelude.{Option, Some, None, Ok, codes}
 use Rattle.std.proofs.lemmas.List.{length-map}
 use Rattle.erl_tree.specs.Lists.{Among}
 use Rattle.erl_tree.specs.declared.token.Place.{Place}
 use Rattle.erl_tree.specs.declared.token.Placed.{Placed}
 use Rattle.erl_tree.specs.declared.token.Node.{Node}
 use Rattle.erl_tree.specs.declared.token.Token.TheVariants as T
+use Rattle.erl_tree.specs.declared.expr.ExprKind.{ExprKind}
 use Rattle.erl_tree.specs.declared.expr.ExprKind.TheVariants as X
 use Rattle.erl_tree.specs.declared.expr.QualifierKind.{QualifierKind}
 use Rattle.erl_grammar.specs.declared.head.Head.TheVariants.{Plain}
 use Rattle.erl_grammar.specs.Pieces.{at, fill}
-use Rattle.erl_grammar.specs.Spelling.{expr_tokens, qualifier_tokens}
-use Rattle.erl_grammar.specs.Nesting.{expr_kind_deep, expr_deep, qualifier_deep}
+use Rattle.erl_grammar.specs.Spelling.{expr_tokens, qualifier_tokens, tail_pieces}
+use Rattle.erl_grammar.specs.Nesting.{deep_all, deep_cells, expr_kind_deep, expr_deep, qualifier_deep}
 use Rattle.erl_grammar.specs.Grammar.{node, AreSeparators, IsExpr, IsQualifier}
 use Rattle.erl_grammar.proofs.NestingLaws.{expr_kind_deep-Cells, expr_kind_deep-Comp}
-use Rattle.expr_parser.specs.Heights.{flat, higher, above, measured}
-use Rattle.expr_parser.specs.Tokens.{mark}
-use Rattle.expr_parser.specs.Parts.{no_parts, with_part}
+use Rattle.token_readers.specs.declared.height.Height.{Height}
+use Rattle.token_readers.specs.declared.height.Measured.{Measured}
+use Rattle.token_readers.specs.Heights.{flat, higher, above, measured}
+use Rattle.token_readers.specs.Tokens.{Answer, Reads, ◌>>=◌, in_case, expect, mark}
+use Rattle.token_readers.specs.Parts.{Several, Cells, no_parts, with_part, read_parts, read_cells, built}
 use Rattle.expr_parser.specs.Operations.{Expr}
-use Rattle.expr_parser.specs.Expressions.{Level, read_qualifier, expr_readers, read_comprehension, read_list}
-use Rattle.expr_parser.proofs.HeightLaws.{among_front, among_behind}
-use Rattle.expr_parser.proofs.Then.{Again, again_ok, again_step, again_none, again_some, IsPart, IsDeep, again_read}
-use Rattle.expr_parser.proofs.TokenLaws.{mark-again, expect_mark-again}
-use Rattle.expr_parser.proofs.PartLaws.{listed, again_these, read_parts-again, deep_behind, deep_cells-first, IsTail, cells_behind, MayFollow, AreAgain, again_cells, cells_follow, read_cells-again}
+use Rattle.expr_parser.specs.Expressions.{Level, Headed, read_qualifier, expr_readers, read_comprehension, read_list}
+use Rattle.token_readers.proofs.HeightLaws.{among_front, among_behind}
+use Rattle.token_readers.proofs.Then.{Again, again_ok, again_step, again_none, again_some, IsPart, IsDeep, again_read}
+use Rattle.token_readers.proofs.TokenLaws.{mark-again, expect_mark-again}
+use Rattle.token_readers.proofs.PartLaws.{listed, again_these, read_parts-again, deep_behind, deep_cells-first, IsTail, cells_behind, MayFollow, AreAgain, again_cells, cells_follow, read_cells-again}
 use Rattle.expr_parser.proofs.FirstTokens as F
 use Rattle.expr_parser.proofs.Levels.{EndsExpr, IsLevel}
-use Rattle.expr_parser.proofs.Endings.{mark-none, EndsQualifier, closes-expr, closes-qualifier, comma-closes, bar-closes, bars-closes, bracket-closes}
+use Rattle.token_readers.proofs.Endings.{mark-none}
+use Rattle.expr_parser.proofs.Endings.{EndsQualifier, closes-expr, closes-qualifier, comma-closes, bar-closes, bars-closes, bracket-closes}
 use Rattle.expr_parser.proofs.ItemLaws.{deeper_in}
 use Rattle.expr_parser.proofs.Inner.{AreParts, AreLevels}
 use Rattle.expr_parser.proofs.CallsAgain.{ReadsHeaded}

@@ -1,30 +1,35 @@
 -- Maps and records, new and changed, and fields of records.
-use Rattle.std.proofs.Common.{◌≡◌, ℕ, suc, ◌≤◌, true, false, List, [], ◌∷◌, ◌++◌, refl, ap, sym, ◌∙◌, subst, append_assoc}
-use Rattle.std.specs.Prelude.{codes}
+use Rattle.std.proofs.Common.{◌≡◌, ℕ, suc, ◌≤◌, true, false, List, [], ◌∷◌, ◌++◌, map, refl, ap, sym, ◌∙◌, subst, append_assoc, arith}
+use Rattle.std.specs.Prelude.{Some, None, Ok, Err, codes}
 use Rattle.type_terms.specs.Keys.{Name}
+use Rattle.erl_tree.specs.Lists.{Among}
 use Rattle.erl_tree.specs.declared.token.Place.{Place}
 use Rattle.erl_tree.specs.declared.token.Placed.{Placed}
+use Rattle.erl_tree.specs.declared.token.Node.{Node}
 use Rattle.erl_tree.specs.declared.token.Token.TheVariants as T
+use Rattle.erl_tree.specs.declared.expr.ExprKind.{ExprKind}
 use Rattle.erl_tree.specs.declared.expr.ExprKind.TheVariants as X
+use Rattle.erl_tree.specs.declared.expr.AssocKind.{AssocKind}
 use Rattle.erl_grammar.specs.declared.head.Head.{Head}
 use Rattle.erl_grammar.specs.declared.head.Head.TheVariants.{OfMap, OfRecord}
-use Rattle.erl_grammar.specs.Pieces.{at}
+use Rattle.erl_grammar.specs.Pieces.{at, own, fill, commas}
 use Rattle.erl_grammar.specs.Spelling.{expr_tokens, assoc_tokens, expr_field_tokens}
 use Rattle.erl_grammar.specs.Nesting.{deep_second, expr_deep, assoc_deep}
 use Rattle.erl_grammar.specs.Grammar.{node, takes_map, takes_record, IsPostfix, new_map, changed_map, new_record, changed_record, record_field, IsAssoc, IsField}
 use Rattle.erl_grammar.proofs.SpellingLaws.{expr_shown-MapNew, expr_shown-MapChange, expr_shown-RecNew, expr_shown-RecChange, expr_shown-RecGet}
 use Rattle.erl_grammar.proofs.NestingLaws.{expr_kind_deep-MapNew, expr_kind_deep-MapChange, expr_kind_deep-RecNew, expr_kind_deep-RecChange, expr_kind_deep-RecGet}
-use Rattle.expr_parser.specs.declared.height.Measured.{Measured}
-use Rattle.expr_parser.specs.Heights.{higher}
-use Rattle.expr_parser.specs.Parts.{read_closed, read_field}
-use Rattle.expr_parser.specs.Outside.{HasOutside, record_index}
+use Rattle.token_readers.specs.declared.height.Measured.{Measured}
+use Rattle.token_readers.specs.Heights.{higher}
+use Rattle.token_readers.specs.Tokens.{Answer, ◌>>=◌, in_case, outside, expect, mark, atom}
+use Rattle.token_readers.specs.Parts.{Several, read_closed, read_field, built}
+use Rattle.token_readers.specs.Outside.{HasOutside, record_index}
 use Rattle.expr_parser.specs.Operations.{Expr}
-use Rattle.expr_parser.specs.Expressions.{Level, read_assoc, read_new_record, read_hash, read_map_change, read_record_change, read_record_field, read_behind_record}
-use Rattle.expr_parser.proofs.Right.{Measures}
-use Rattle.expr_parser.proofs.HeightLaws.{measures_as, both_measured, higher_within}
-use Rattle.expr_parser.proofs.Then.{Behind, behind_part, Right, right_ok, right_outside, right_next, right_case}
-use Rattle.expr_parser.proofs.TokenLaws.{mark-takes, expect_mark, expect_atom}
-use Rattle.expr_parser.proofs.PartLaws.{AreClosed, read_closed-right}
+use Rattle.expr_parser.specs.Expressions.{Level, Headed, read_assoc, read_new_record, read_hash, read_map_change, read_record_change, read_record_field, read_behind_record}
+use Rattle.token_readers.proofs.Right.{Measures, Read}
+use Rattle.token_readers.proofs.HeightLaws.{measures_as, both_measured, higher_within}
+use Rattle.token_readers.proofs.Then.{Behind, behind_none, behind_token, behind_part, behind_behind, Right, right_ok, right_outside, right_next, right_case}
+use Rattle.token_readers.proofs.TokenLaws.{mark-takes, expect_mark, expect_atom}
+use Rattle.token_readers.proofs.PartLaws.{AreClosed, read_closed-right}
 use Rattle.expr_parser.proofs.Inner.{AreParts}
 use Rattle.expr_parser.proofs.Heads.{HeadedRead, headed_read, right_tokens}
 use Rattle.expr_parser.proofs.CallLaws.{stands}

@@ -1,34 +1,38 @@
 -- Maps and records, new and changed, and fields of records are read again.
-use Rattle.std.proofs.Common.{◌≡◌, ℕ, Bool, true, false, List, [], ◌∷◌, ◌++◌, map, refl, ap, ◌∙◌, append_assoc}
-use Rattle.std.specs.Prelude.{None, codes}
+use Rattle.std.proofs.Common.{◌≡◌, ℕ, suc, Bool, true, false, List, [], ◌∷◌, ◌++◌, map, refl, ap, sym, ◌∙◌, subst, append_assoc}
+use Rattle.std.specs.Prelude.{Some, None, Ok, codes}
 use Rattle.type_terms.specs.Keys.{Name}
 use Rattle.erl_tree.specs.Lists.{Among}
 use Rattle.erl_tree.specs.declared.token.Place.{Place}
 use Rattle.erl_tree.specs.declared.token.Placed.{Placed}
 use Rattle.erl_tree.specs.declared.token.Node.{Node}
 use Rattle.erl_tree.specs.declared.token.Token.TheVariants as T
+use Rattle.erl_tree.specs.declared.expr.ExprKind.{ExprKind}
 use Rattle.erl_tree.specs.declared.expr.ExprKind.TheVariants as X
 use Rattle.erl_tree.specs.declared.expr.AssocKind.{AssocKind}
+use Rattle.erl_grammar.specs.declared.head.Head.{Head}
 use Rattle.erl_grammar.specs.declared.head.Head.TheVariants.{OfMap, OfRecord}
 use Rattle.erl_grammar.specs.Pieces.{at, own, fill, commas}
-use Rattle.erl_grammar.specs.Spelling.{expr_tokens, assoc_tokens, expr_field_tokens}
+use Rattle.erl_grammar.specs.Spelling.{expr_tokens, assoc_tokens, expr_field_tokens, association_text}
 use Rattle.erl_grammar.specs.Nesting.{deep_all, deep_second, expr_deep, assoc_deep}
 use Rattle.erl_grammar.specs.Grammar.{node, AreSeparators, IsExpr, assoc_of, IsAssoc, added, exact, IsField, field}
 use Rattle.erl_grammar.proofs.SpellingLaws.{assoc_shown-assoc_of}
-use Rattle.erl_grammar.proofs.NestingLaws.{expr_kind_deep-MapNew, expr_kind_deep-MapChange, expr_kind_deep-RecNew, expr_kind_deep-RecChange}
-use Rattle.expr_parser.specs.declared.height.Height.{Height}
-use Rattle.expr_parser.specs.Heights.{higher, above, measured}
-use Rattle.expr_parser.specs.Tokens.{mark}
-use Rattle.expr_parser.specs.Parts.{read_closed, read_field}
+use Rattle.erl_grammar.proofs.NestingLaws.{expr_kind_deep-MapNew, expr_kind_deep-MapChange, expr_kind_deep-RecNew, expr_kind_deep-RecChange, expr_kind_deep-RecGet}
+use Rattle.token_readers.specs.declared.height.Height.{Height}
+use Rattle.token_readers.specs.declared.height.Measured.{Measured}
+use Rattle.token_readers.specs.Heights.{higher, above, measured}
+use Rattle.token_readers.specs.Tokens.{Answer, ◌>>=◌, in_case, outside, expect, mark, atom}
+use Rattle.token_readers.specs.Parts.{Several, read_closed, read_field, built}
 use Rattle.expr_parser.specs.Operations.{Expr}
-use Rattle.expr_parser.specs.Expressions.{Level, read_assoc, read_new_record, read_hash, read_map_change, read_record_change, read_record_field, read_behind_record}
-use Rattle.expr_parser.proofs.HeightLaws.{among_behind}
-use Rattle.expr_parser.proofs.Then.{Again, again_ok, again_step, again_none, again_some}
-use Rattle.expr_parser.proofs.TokenLaws.{mark-again, expect_mark-again, expect_atom-again}
-use Rattle.expr_parser.proofs.PartLaws.{AreThese, again_these, read_closed-again}
+use Rattle.expr_parser.specs.Expressions.{Level, Headed, read_assoc, read_new_record, read_hash, read_map_change, read_record_change, read_record_field, read_behind_record}
+use Rattle.token_readers.proofs.HeightLaws.{among_front, among_behind}
+use Rattle.token_readers.proofs.Then.{Again, again_ok, again_step, again_none, again_some, IsDeep}
+use Rattle.token_readers.proofs.TokenLaws.{mark-again, expect_mark-again, expect_atom-again}
+use Rattle.token_readers.proofs.PartLaws.{AreThese, again_these, read_closed-again}
 use Rattle.expr_parser.proofs.FirstTokens as F
 use Rattle.expr_parser.proofs.Levels.{EndsExpr}
-use Rattle.expr_parser.proofs.Endings.{mark-none, EndsAssoc, closes-expr, closes-assoc, comma-closes, brace-closes}
+use Rattle.token_readers.proofs.Endings.{mark-none}
+use Rattle.expr_parser.proofs.Endings.{EndsAssoc, closes-expr, closes-assoc, comma-closes, brace-closes}
 use Rattle.expr_parser.proofs.ItemLaws.{deeper_in}
 use Rattle.expr_parser.proofs.Inner.{AreParts}
 use Rattle.expr_parser.proofs.CallsAgain.{ReadsHeaded}

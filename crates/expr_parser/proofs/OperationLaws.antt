@@ -14,17 +14,17 @@ use Rattle.erl_grammar.specs.Nesting.{expr_kind_deep, expr_deep}
 use Rattle.erl_grammar.specs.Grammar.{node, IsExpr, operation, unary, postfix, IsPostfix}
 use Rattle.erl_grammar.proofs.SpellingLaws.{expr_shown-Unary, expr_shown-Binary}
 use Rattle.erl_grammar.proofs.NestingLaws.{expr_kind_deep-Unary, expr_kind_deep-Binary}
-use Rattle.expr_parser.specs.declared.height.Height.{Height}
-use Rattle.expr_parser.specs.declared.height.Measured.{Measured}
+use Rattle.token_readers.specs.declared.height.Height.{Height}
+use Rattle.token_readers.specs.declared.height.Measured.{Measured}
 use Rattle.expr_parser.specs.declared.operators.Waiting.{Waiting}
 use Rattle.expr_parser.specs.declared.operators.Waiting.TheVariants.{Sign, Operator}
-use Rattle.expr_parser.specs.Heights.{higher, above}
-use Rattle.expr_parser.specs.Tokens.{Answer, Reads, in_case, ended, operator}
+use Rattle.token_readers.specs.Heights.{higher, above}
+use Rattle.token_readers.specs.Tokens.{Answer, Reads, in_case, ended, operator}
 use Rattle.expr_parser.specs.Operations.{Expr, Operand, operand, asks, strength, joined, Pending, pending, reduced, whole, postfix_priority, with_room, behind_operator, read_operations, read_expr_with}
-use Rattle.expr_parser.proofs.Right.{Measures}
-use Rattle.expr_parser.proofs.HeightLaws.{measures_as, both_measured, node_measured, higher_within, above_within}
-use Rattle.expr_parser.proofs.Then.{behind_part, Right, right_fault, right_as, right_behind, right_next, right_case, right_if, right_within, IsRead}
-use Rattle.expr_parser.proofs.TokenLaws.{ended-right, sign-takes, operator-takes}
+use Rattle.token_readers.proofs.Right.{Measures}
+use Rattle.token_readers.proofs.HeightLaws.{measures_as, both_measured, node_measured, higher_within, above_within}
+use Rattle.token_readers.proofs.Then.{behind_part, Right, right_fault, right_as, right_behind, right_next, right_case, right_if, right_within, IsRead}
+use Rattle.token_readers.proofs.TokenLaws.{ended-right, sign-takes, operator-takes}
 use Rattle.expr_parser.proofs.PriorityLaws.{bounded, right_priority-more}
 
 -- ---- nodes with operators
@@ -185,7 +185,7 @@ module _ {L : Type 0} (inner : List L → Reads (Measured Expr)) (levels : List 
   end_right all ws o us a i e =
       let w = whole_is (length levels) ws o a i in
       let g : IsExprRead all (whole ws o, us) = record { formed = w.formed; takes = e ∙ ap (λ ts. ts ++ us) w.takes; measures = w.measures; within = w.within } in
-      right_as (λ q h. subst (IsExprRead all) (sym h) g) (right_behind (behind_part (waiting_tokens ws ++ expr_tokens o.expr.tree) e) (ended-right (whole ws o) us))
+      right_as (λ q h. subst (IsExprRead all) (sym h) g) (right_behind (behind_part [] g.takes) (ended-right (whole ws o) (whole ws o).tree us w.formed))
 
   -- reading goes on rightly
   abbrev GoesOn : ℕ → Type 0

@@ -18,18 +18,18 @@ use Rattle.erl_grammar.specs.Nesting.{Deep, deep_node, expr_kind_deep, expr_deep
 use Rattle.erl_grammar.specs.Grammar.{node, IsExpr, operation, unary, postfix, IsPostfix}
 use Rattle.erl_grammar.proofs.DeeperLaws.{expr_falls}
 use Rattle.erl_grammar.proofs.NestingLaws.{expr_kind_deep-Unary, expr_kind_deep-Binary}
-use Rattle.expr_parser.specs.declared.height.Height.{Height}
-use Rattle.expr_parser.specs.declared.height.Measured.{Measured}
+use Rattle.token_readers.specs.declared.height.Height.{Height}
+use Rattle.token_readers.specs.declared.height.Measured.{Measured}
 use Rattle.expr_parser.specs.declared.operators.Waiting.{Waiting}
 use Rattle.expr_parser.specs.declared.operators.Waiting.TheVariants.{Sign, Operator}
-use Rattle.expr_parser.specs.Heights.{higher, above, measured}
-use Rattle.expr_parser.specs.Tokens.{Answer, Reads, in_case, ended, operator, mark, string_next}
+use Rattle.token_readers.specs.Heights.{higher, above, measured}
+use Rattle.token_readers.specs.Tokens.{Answer, Reads, in_case, ended, operator, mark, string_next}
 use Rattle.expr_parser.specs.Operations.{Expr, Operand, operand, asks, strength, joined, pending, reduced, whole, postfix_priority, with_room, behind_operator, read_operations, read_expr_with}
 use Rattle.expr_parser.proofs.Levels.{EndsPostfix, EndsExpr}
-use Rattle.expr_parser.proofs.Right.{Measures}
-use Rattle.expr_parser.proofs.HeightLaws.{among_front, among_behind}
-use Rattle.expr_parser.proofs.Then.{Right, IsRead, Again, again_ok, again_deep, again_none, again_some, again_true, again_within, again_read_right, IsPart, IsDeep}
-use Rattle.expr_parser.proofs.TokenLaws.{sign-again, operator-again, ended-again}
+use Rattle.token_readers.proofs.Right.{Measures}
+use Rattle.token_readers.proofs.HeightLaws.{among_front, among_behind}
+use Rattle.token_readers.proofs.Then.{Right, IsRead, Again, again_ok, again_deep, again_none, again_some, again_true, again_within, again_read_right, IsPart, IsDeep}
+use Rattle.token_readers.proofs.TokenLaws.{sign-again, operator-again, ended-again}
 use Rattle.expr_parser.proofs.PriorityLaws.{bounded, left_priority-more, right_priority-more, binds_less}
 use Rattle.expr_parser.proofs.FirstTokens.{postfix_no_sign}
 use Rattle.expr_parser.proofs.OperationLaws.{sign_node, operator_node, sign_text, operator_text, sign_measured, operator_measured, asked, asks-positive, IsAnyPostfix}

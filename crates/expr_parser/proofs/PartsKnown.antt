@@ -1,16 +1,16 @@
 -- The readers of the parts of one level, from those of its expressions and patterns.
-use Rattle.std.proofs.Common.{ℕ, List, ◌++◌}
+use Rattle.std.proofs.Common.{ℕ, List, ◌∷◌, ◌++◌}
 use Rattle.type_terms.specs.Keys.{Name}
 use Rattle.erl_tree.specs.declared.token.Placed.{Placed}
 use Rattle.erl_tree.specs.declared.token.Node.{Node}
 use Rattle.erl_grammar.specs.Spelling.{expr_tokens, expr_field_tokens}
 use Rattle.erl_grammar.specs.Nesting.{deep_second, expr_deep}
 use Rattle.erl_grammar.specs.Grammar.{IsExpr, IsField, field}
-use Rattle.expr_parser.specs.Parts.{read_field}
+use Rattle.token_readers.specs.Parts.{read_field}
 use Rattle.expr_parser.specs.Operations.{Expr}
 use Rattle.expr_parser.specs.Expressions.{Level}
-use Rattle.expr_parser.proofs.Then.{Again, IsPart, IsDeep}
-use Rattle.expr_parser.proofs.PartLaws.{read_field-right, read_field-again}
+use Rattle.token_readers.proofs.Then.{Again, IsPart, IsDeep}
+use Rattle.token_readers.proofs.PartLaws.{read_field-right, read_field-again}
 use Rattle.expr_parser.proofs.Levels.{EndsExpr, IsLevel}
 use Rattle.expr_parser.proofs.ItemLaws.{item-right, qualifier-right, assoc-right, item-again, qualifier-again, assoc-again}
 use Rattle.expr_parser.proofs.ClauseLaws.{case_clause-right, case_clause-again, if_clause-right, if_clause-again, fun_clause-right, fun_clause-again}

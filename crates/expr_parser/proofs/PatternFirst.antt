@@ -11,9 +11,9 @@ use Rattle.erl_grammar.specs.Pieces.{at}
 use Rattle.erl_grammar.specs.Spelling.{pattern_tokens}
 use Rattle.erl_grammar.specs.Grammar.{IsPattern, one_pattern, alias, IsSimplePattern, atom_pattern, integer_pattern, negative_pattern, character_pattern, string_pattern, variable_pattern, paren_pattern, tuple_pattern, list_pattern, cells_pattern, map_pattern, record_pattern, IsClass, atom_class, variable_class}
 use Rattle.erl_grammar.proofs.SpellingLaws.{pattern_shown-Atom, pattern_shown-Int, pattern_shown-NegInt, pattern_shown-Char, pattern_shown-Str, pattern_shown-Var, pattern_shown-Paren, pattern_shown-Tuple, pattern_shown-Cells, pattern_shown-Map, pattern_shown-Rec, pattern_shown-Alias}
-use Rattle.expr_parser.specs.Tokens.{is_mark, mark}
+use Rattle.token_readers.specs.Tokens.{is_mark, mark}
 use Rattle.expr_parser.specs.Expressions.{may_be_class, class_next}
-use Rattle.expr_parser.proofs.Endings.{mark-none}
+use Rattle.token_readers.proofs.Endings.{mark-none}
 
 -- a pattern's first token, which closes no parameters; where it may be the class of an exception, the pattern is that, and has no other token
 record Begins (p : Node PatternKind) : Type 0 where

@@ -1,6 +1,6 @@
 -- Expressions without operators are read again, with all that follows their first part.
-use Rattle.std.proofs.Common.{◌≡◌, ℕ, zero, suc, ◌≤◌, ◌<◌, true, List, [], ◌∷◌, ◌++◌, length, refl, ap, sym, ◌∙◌, subst, inl, append_assoc, length-append, arith}
-use Rattle.std.specs.Prelude.{Some, None, Ok, if◌then◌else◌, codes}
+use Rattle.std.proofs.Common.{◌≡◌, ℕ, zero, suc, ◌≤◌, ◌<◌, Bool, true, false, List, [], ◌∷◌, ◌++◌, map, length, refl, ap, sym, ◌∙◌, subst, inl, inr, append_assoc, length-append, arith}
+use Rattle.std.specs.Prelude.{Option, Some, None, Ok, Err, if◌then◌else◌, codes}
 use Rattle.type_terms.specs.Keys.{Name}
 use Rattle.erl_tree.specs.Lists.{Among}
 use Rattle.erl_tree.specs.declared.token.Place.{Place}
@@ -8,43 +8,46 @@ use Rattle.erl_tree.specs.declared.token.Placed.{Placed}
 use Rattle.erl_tree.specs.declared.token.Node.{Node}
 use Rattle.erl_tree.specs.declared.token.Token.{Token}
 use Rattle.erl_tree.specs.declared.token.Token.TheVariants as T
+use Rattle.erl_tree.specs.declared.expr.ExprKind.{ExprKind}
 use Rattle.erl_tree.specs.declared.expr.ExprKind.TheVariants as X
 use Rattle.erl_tree.specs.declared.expr.AssocKind.{AssocKind}
 use Rattle.erl_grammar.specs.declared.head.Head.{Head}
 use Rattle.erl_grammar.specs.declared.head.Head.TheVariants.{Plain, OfMap, OfRecord, OfCall}
-use Rattle.erl_grammar.specs.Pieces.{at, fill}
+use Rattle.erl_grammar.specs.Pieces.{at, own, fill, commas}
 use Rattle.erl_grammar.specs.Spelling.{expr_tokens, qualifier_tokens, item_tokens, case_clause_tokens, if_clause_tokens, fun_clause_tokens}
 use Rattle.erl_grammar.specs.Nesting.{expr_deep}
-use Rattle.erl_grammar.specs.Grammar.{node, AreSeparators, IsExpr, takes_map, takes_record, IsPostfix, atom, integer, character, string, variable, parens, tuple, list, cells, comprehension, call, prefixed_call, variable_applied, parens_applied, new_map, changed_map, new_record, changed_record, record_field, begin_end, case_of, if_end, fun_name, fun_end, try_end, IsAssoc}
+use Rattle.erl_grammar.specs.Grammar.{node, AreSeparators, IsExpr, takes_map, takes_record, IsPostfix, atom, integer, character, string, variable, parens, tuple, list, cells, comprehension, call, prefixed_call, variable_applied, parens_applied, new_map, changed_map, new_record, changed_record, record_field, begin_end, case_of, if_end, fun_name, fun_end, try_end, IsAssoc, IsField}
 use Rattle.erl_grammar.proofs.DeeperLaws.{expr_falls}
 use Rattle.erl_grammar.proofs.SpellingLaws.{expr_shown-Atom, expr_shown-Int, expr_shown-Char, expr_shown-Str, expr_shown-Var, expr_shown-Paren, expr_shown-Tuple, expr_shown-Cells, expr_shown-Comp, expr_shown-Call, expr_shown-Apply, expr_shown-MapNew, expr_shown-MapChange, expr_shown-RecNew, expr_shown-RecChange, expr_shown-RecGet, expr_shown-Begin, expr_shown-Case, expr_shown-If, expr_shown-FunName, expr_shown-Fun, expr_shown-Try}
 use Rattle.erl_grammar.proofs.NestingLaws.{expr_kind_deep-MapChange, expr_kind_deep-RecChange, expr_kind_deep-RecGet}
-use Rattle.expr_parser.specs.declared.height.Height.{Height}
-use Rattle.expr_parser.specs.declared.height.Measured.{Measured}
-use Rattle.expr_parser.specs.Heights.{flat, above, measured}
-use Rattle.expr_parser.specs.Tokens.{Answer, ◌>>=◌, unexpected, mark}
+use Rattle.token_readers.specs.declared.height.Height.{Height}
+use Rattle.token_readers.specs.declared.height.Measured.{Measured}
+use Rattle.token_readers.specs.Heights.{flat, above, measured}
+use Rattle.token_readers.specs.Tokens as R
+use Rattle.token_readers.specs.Tokens.{Answer, ◌>>=◌, in_case, unexpected, mark}
+use Rattle.token_readers.specs.Parts.{within}
 use Rattle.expr_parser.specs.Operations.{Expr}
-use Rattle.expr_parser.specs.Expressions.{Level, Headed, Tail, no_tail, map_tail, record_tail, tail_of, read_tail, is_tail, read_tails, read_behind_record, primary_from, read_postfix}
-use Rattle.expr_parser.proofs.Right.{Measures}
-use Rattle.expr_parser.proofs.HeightLaws.{among_front}
-use Rattle.expr_parser.proofs.Then.{Right, right_fault, right_within, Again, again_ok, again_deep, again_from, again_then, again_true, again_within, IsPart, IsDeep}
-use Rattle.expr_parser.proofs.TokenLaws.{mark-again, atom-again}
-use Rattle.expr_parser.proofs.PartLaws.{cells_behind}
+use Rattle.expr_parser.specs.Expressions.{Level, Headed, Tail, no_tail, map_tail, record_tail, tail_behind, tail_of, read_tail, is_tail, read_tails, read_map_change, read_behind_record, primary_from, read_postfix}
+use Rattle.token_readers.proofs.Right.{Measures}
+use Rattle.token_readers.proofs.HeightLaws.{among_front}
+use Rattle.token_readers.proofs.Then.{Right, right_fault, right_within, Again, again_ok, again_deep, again_from, again_as, again_then, again_none, again_some, again_true, again_false, again_within, IsPart, IsDeep}
+use Rattle.token_readers.proofs.TokenLaws.{mark-again, atom-again}
+use Rattle.token_readers.proofs.PartLaws.{listed, IsTail, cells_behind}
 use Rattle.expr_parser.proofs.FirstTokens as F
 use Rattle.expr_parser.proofs.Levels.{EndsPostfix, IsLevel}
-use Rattle.expr_parser.proofs.Endings.{mark-none}
+use Rattle.token_readers.proofs.Endings.{mark-none}
 use Rattle.expr_parser.proofs.ItemLaws.{deeper_in}
 use Rattle.expr_parser.proofs.Inner.{AreParts, AreLevels}
 use Rattle.expr_parser.proofs.PartsKnown.{parts_known}
-use Rattle.expr_parser.proofs.Heads.{HeadedRead, IsHeadedMeasured, again_headed, EndsFirst, ends_first, hash_ends_first, listed_closed}
+use Rattle.expr_parser.proofs.Heads.{HeadedRead, IsHeaded, IsHeadedMeasured, again_headed, EndsFirst, ends_first, hash_ends_first, listed_closed}
 use Rattle.expr_parser.proofs.ListLaws.{cells_text}
-use Rattle.expr_parser.proofs.MapLaws.{read_map_change-right, read_behind_record-right}
+use Rattle.expr_parser.proofs.MapLaws.{IsLeftSide, read_map_change-right, read_behind_record-right}
 use Rattle.expr_parser.proofs.BlockLaws.{try_text}
 use Rattle.expr_parser.proofs.PostfixLaws.{primary_from-right}
 use Rattle.expr_parser.proofs.CallsAgain.{closed_tokens, ReadsHeaded, read_string-again, read_tuple-again, read_atom-again, read_called-again, read_erlang-again, read_variable-again, read_variable_applied-again, read_parens-again, read_parens_applied-again}
 use Rattle.expr_parser.proofs.ListsAgain.{read_empty-again, read_cells_list-again, read_comprehension-again}
 use Rattle.expr_parser.proofs.MapsAgain.{assocs_closed, fields_closed, read_new_map-again, read_new_record-again, read_map_change-again, read_record_change-again, read_record_field-again}
-use Rattle.expr_parser.proofs.BlocksAgain.{read_begin-again, read_case-again, read_if-again, read_fun_name-again, read_fun_end-again, read_try-again}
+use Rattle.expr_parser.proofs.BlocksAgain.{after_text, catch_text, of_text, read_begin-again, read_case-again, read_if-again, read_fun_name-again, read_fun_end-again, read_try-again}
 
 -- ---- tails
 

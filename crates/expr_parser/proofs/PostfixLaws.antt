@@ -1,12 +1,13 @@
 -- Expressions without operators: what is read is well formed, takes its tokens and is measured.
-use Rattle.std.proofs.Common.{◌≡◌, ℕ, zero, suc, ◌≤◌, Bool, true, false, List, [], ◌∷◌, ◌++◌, length, refl, ap, sym, ◌∙◌, arith}
-use Rattle.std.specs.Prelude.{Option, Some, None, Ok, if◌then◌else◌, codes}
+use Rattle.std.proofs.Common.{◌≡◌, ℕ, zero, suc, ◌≤◌, Bool, true, false, List, [], ◌∷◌, ◌++◌, length, refl, ap, sym, ◌∙◌, subst, arith}
+use Rattle.std.specs.Prelude.{Option, Some, None, Ok, Err, if◌then◌else◌, codes}
 use Rattle.std.specs.Str.{bytes_eq}
 use Rattle.type_terms.specs.Keys.{Name}
 use Rattle.erl_tree.specs.declared.token.Place.{Place}
 use Rattle.erl_tree.specs.declared.token.Placed.{Placed}
 use Rattle.erl_tree.specs.declared.token.Token.{Token}
 use Rattle.erl_tree.specs.declared.token.Token.TheVariants as T
+use Rattle.erl_tree.specs.declared.expr.ExprKind.{ExprKind}
 use Rattle.erl_tree.specs.declared.expr.ExprKind.TheVariants as X
 use Rattle.erl_grammar.specs.declared.head.Head.{Head}
 use Rattle.erl_grammar.specs.declared.head.Head.TheVariants.{Plain}
@@ -17,12 +18,14 @@ use Rattle.erl_grammar.specs.Grammar.{takes_map, takes_record}
 use Rattle.erl_grammar.specs.Grammar as G
 use Rattle.erl_grammar.proofs.SpellingLaws.{expr_shown-Int, expr_shown-Char}
 use Rattle.erl_grammar.proofs.NestingLaws.{expr_kind_deep-Int, expr_kind_deep-Char}
-use Rattle.expr_parser.specs.Heights.{flat}
-use Rattle.expr_parser.specs.Tokens.{Answer, in_case, mark, atom}
-use Rattle.expr_parser.specs.Expressions.{Level, Headed, Tail, no_tail, map_tail, record_tail, tail_behind, tail_of, read_tail, read_tails, primary_from, read_postfix}
-use Rattle.expr_parser.proofs.HeightLaws.{nothing_measured}
-use Rattle.expr_parser.proofs.Then.{Right, right_ok, right_fault, right_then, right_if, right_within, IsRead}
-use Rattle.expr_parser.proofs.TokenLaws.{mark-takes, atom-takes, wrong_word-right}
+use Rattle.token_readers.specs.declared.height.Measured.{Measured}
+use Rattle.token_readers.specs.Heights.{flat}
+use Rattle.token_readers.specs.Tokens.{Answer, ◌>>=◌, in_case, mark, atom}
+use Rattle.expr_parser.specs.Operations.{Expr}
+use Rattle.expr_parser.specs.Expressions.{Level, Headed, Tail, no_tail, map_tail, record_tail, tail_behind, tail_of, read_tail, is_tail, read_tails, primary_from_mark, primary_from_word, primary_from, read_postfix}
+use Rattle.token_readers.proofs.HeightLaws.{nothing_measured}
+use Rattle.token_readers.proofs.Then.{Right, right_ok, right_fault, right_next, right_then, right_if, right_within, behind_none, IsRead}
+use Rattle.token_readers.proofs.TokenLaws.{mark-takes, atom-takes, wrong_word-right}
 use Rattle.expr_parser.proofs.OperationLaws.{IsAnyPostfix}
 use Rattle.expr_parser.proofs.Levels.{IsLevel}
 use Rattle.expr_parser.proofs.Inner.{AreParts, AreLevels}

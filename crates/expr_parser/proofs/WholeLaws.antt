@@ -1,25 +1,29 @@
 -- A text that is one expression: what is found is the expression with these tokens, each well-formed expression is found or is nested too deep, and no tokens are those of two.
-use Rattle.std.proofs.Common.{◌≡◌, ℕ, List, [], ◌∷◌, ◌++◌, refl, ap, sym, ◌∙◌, subst, inl, inr, arith}
-use Rattle.std.specs.Prelude.{◌⊎◌, Ok, Err}
+use Rattle.std.proofs.Common.{◌≡◌, ℕ, zero, suc, ◌+◌, ◌≤◌, Bool, true, false, List, [], ◌∷◌, ◌++◌, refl, ap, sym, ◌∙◌, subst, inl, inr, append_assoc, append-nil, arith}
+use Rattle.std.specs.Prelude.{◌⊎◌, None, Ok, Err, if◌then◌else◌, codes}
 use Rattle.type_terms.specs.Keys.{Name}
 use Rattle.erl_tree.specs.Lists.{Among}
 use Rattle.erl_tree.specs.declared.token.Place.{Place}
 use Rattle.erl_tree.specs.declared.token.Placed.{Placed}
+use Rattle.erl_tree.specs.declared.token.Token.{Token}
 use Rattle.erl_tree.specs.declared.token.Token.TheVariants as T
 use Rattle.erl_grammar.specs.Pieces.{at}
 use Rattle.erl_grammar.specs.Spelling.{expr_tokens}
 use Rattle.erl_grammar.specs.Nesting.{expr_deep}
 use Rattle.erl_grammar.specs.Grammar.{IsExpr}
-use Rattle.erl_grammar.proofs.DepthLaws.{expr_bounded}
-use Rattle.expr_parser.specs.declared.fault.ParseFault.TheVariants as faults
-use Rattle.expr_parser.specs.declared.height.Measured.{Measured}
-use Rattle.expr_parser.specs.Tokens.{Answer, in_case, first_place, unexpected, end}
+use Rattle.erl_grammar.proofs.DepthLaws.{Bounded, expr_bounded}
+use Rattle.token_readers.specs.declared.fault.ParseFault.{ParseFault}
+use Rattle.token_readers.specs.declared.fault.ParseFault.TheVariants as faults
+use Rattle.token_readers.specs.declared.height.Height.{Height}
+use Rattle.token_readers.specs.declared.height.Measured.{Measured}
+use Rattle.token_readers.specs.Heights.{measured}
+use Rattle.token_readers.specs.Tokens.{Answer, ◌>>=◌, in_case, first_place, unexpected, end}
 use Rattle.expr_parser.specs.Answers.{IsText}
-use Rattle.expr_parser.specs.Outside.{HasOutside}
+use Rattle.token_readers.specs.Outside.{HasOutside}
 use Rattle.expr_parser.specs.Operations.{Expr}
-use Rattle.expr_parser.specs.Expressions.{read_whole_expr}
-use Rattle.expr_parser.proofs.Then.{behind_part, Right, right_ok, right_fault, right_as, right_behind, right_then, right_case, IsRead, Again, again_ok, again_some, again_read, again_shallow}
-use Rattle.expr_parser.proofs.TokenLaws.{end-takes, end-again}
+use Rattle.expr_parser.specs.Expressions.{read_expr, read_whole_expr}
+use Rattle.token_readers.proofs.Then.{behind_part, Right, right_ok, right_fault, right_as, right_behind, right_then, right_case, IsRead, Again, AgainBy, again_ok, again_some, again_read, again_shallow, IsPart, IsDeep}
+use Rattle.token_readers.proofs.TokenLaws.{end-takes, end-again}
 use Rattle.expr_parser.proofs.Endings.{closes-expr, end_of_text-closes}
 use Rattle.expr_parser.proofs.LevelLaws.{read_expr-right, read_expr-again}
 

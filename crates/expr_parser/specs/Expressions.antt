@@ -1,5 +1,5 @@
 -- Reading expressions, bodies, clauses and everything inside them.
-use Rattle.std.specs.Prelude.{ℕ, zero, suc, List, [], ◌∷◌, ◌++◌, length, map, Option, Some, None, Ok, Err, Bool, true, false, ◌&&◌, nat_le, if◌then◌else◌, codes}
+use Rattle.std.specs.Prelude.{ℕ, zero, suc, List, [], ◌∷◌, ◌++◌, length, map, Option, Some, None, Ok, Err, Bool, true, false, ◌&&◌, if◌then◌else◌, codes}
 use Rattle.std.specs.Str.{bytes_eq}
 use Rattle.type_terms.specs.Keys.{Name}
 use Rattle.erl_tree.specs.declared.token.Place.{Place}
@@ -22,14 +22,14 @@ use Rattle.erl_grammar.specs.declared.misfit.Misfit.{Misfit}
 use Rattle.erl_grammar.specs.declared.misfit.Misfit.TheVariants as misfits
 use Rattle.erl_grammar.specs.Guards.{misfit, is_call_in_profile}
 use Rattle.erl_grammar.specs.Grammar.{node, takes_map, takes_record, clause_of, assoc_of, catch_of}
-use Rattle.expr_parser.specs.declared.height.Height.{Height}
-use Rattle.expr_parser.specs.declared.height.Measured.{Measured}
-use Rattle.expr_parser.specs.declared.fault.ParseFault.TheVariants as faults
-use Rattle.expr_parser.specs.Heights.{flat, higher, measured}
-use Rattle.expr_parser.specs.Tokens.{Answer, Reads, ◌>>=◌, in_case, first_place, unexpected, outside, expect, is_mark, mark, word, atom, integer, string_next, end, wrong_word}
-use Rattle.expr_parser.specs.Scan.{leads_to}
-use Rattle.expr_parser.specs.Parts.{Several, no_parts, with_part, with_mark, read_parts, read_closed, read_cells, read_field}
-use Rattle.expr_parser.specs.Patterns.{Pattern, built, within, read_pattern, pattern_levels, read_left}
+use Rattle.token_readers.specs.declared.height.Height.{Height}
+use Rattle.token_readers.specs.declared.height.Measured.{Measured}
+use Rattle.token_readers.specs.declared.fault.ParseFault.TheVariants as faults
+use Rattle.token_readers.specs.Heights.{flat, higher, measured}
+use Rattle.token_readers.specs.Tokens.{Answer, Reads, ◌>>=◌, in_case, first_place, unexpected, outside, expect, is_mark, mark, word, atom, integer, string_next, end, wrong_word}
+use Rattle.pattern_parser.specs.Scan.{leads_to}
+use Rattle.token_readers.specs.Parts.{Several, no_parts, with_part, read_parts, read_closed, read_cells, read_field, built, within, read_parameters, read_arrow}
+use Rattle.pattern_parser.specs.Patterns.{Pattern, read_pattern, pattern_levels, read_left}
 use Rattle.expr_parser.specs.Operations.{Expr, read_expr_with}
 
 -- the readers of what stands at one level
@@ -55,10 +55,6 @@ unfoldable pub read_qualifier : Level → Reads (Measured (Node QualifierKind))
 read_qualifier l ts = if leads_to (codes "<-") ts
     then (l.pattern ts >>= λ p. expect (mark (codes "<-")) p.1 >>= λ m. l.expr m.1 >>= λ e. Ok (measured (node p.0.tree.place (m.0 ∷ []) (Q.Generator p.0.tree e.0.tree)) (higher p.0.height e.0.height), e.1))
     else (l.expr ts >>= λ e. Ok (measured (node e.0.tree.place [] (Q.Filter e.0.tree)) e.0.height, e.1))
-
--- `=>`, or `:=` where it may stand
-unfoldable pub read_arrow : Bool → Reads (Bool × Place)
-read_arrow may_be_exact ts = in_case (mark (codes "=>") ts) (if may_be_exact then (expect (mark (codes ":=")) ts >>= λ m. Ok ((true, m.0), m.1)) else unexpected ts) (λ m. Ok ((false, m.0), m.1))
 
 -- `K => V`, and `K := V` where it may stand
 unfoldable pub read_assoc : Level → Bool → Reads (Measured (Node AssocKind))
@@ -148,25 +144,9 @@ read_case_clause l ts = l.pattern ts >>= λ p. read_behind_patterns l p.0.tree.p
 unfoldable pub read_if_clause : Level → Reads (Measured (Node ClauseKind))
 read_if_clause l ts = read_guard l ts >>= λ g. expect (mark (codes "->")) g.1 >>= λ a. read_body l a.1 >>= λ b. Ok (measured (node g.0.tree.place (a.0 ∷ b.0.marks) (clause_of [] (Some g.0.tree) b.0.items)) (higher g.0.height b.0.height), b.1)
 
--- a parameter behind 255 others
-abbrev pub too_many : {A : Type 0} → List Placed → Answer A
-too_many [] = unexpected []
-too_many (t ∷ ts) = outside (codes "arity") t.place
-
--- parameters behind those that were read, and the closing parenthesis: at most 255
-unfoldable pub read_parameters : Level → ℕ → Several Pattern → Reads (Several Pattern)
-read_parameters l zero s ts = unexpected ts
-read_parameters l (suc k) s ts = l.pattern ts >>= λ p. in_case (mark (codes ",") p.1)
-    (expect (mark (codes ")")) p.1 >>= λ c. Ok (with_mark (with_part s p.0) c.0, c.1))
-    (λ m. if nat_le 255 (suc (length s.items)) then too_many m.1 else read_parameters l k (with_mark (with_part s p.0) m.0) m.1)
-
--- parameters and the closing parenthesis
-unfoldable pub read_parameter_list : Level → Reads (Several Pattern)
-read_parameter_list l ts = in_case (mark (codes ")") ts) (read_parameters l (suc (length ts)) no_parts ts) (λ c. Ok (with_mark no_parts c.0, c.1))
-
 -- `(P, ..) when G -> I, ..`
 unfoldable pub read_fun_clause : Level → Reads (Measured (Node ClauseKind))
-read_fun_clause l ts = expect (mark (codes "(")) ts >>= λ o. read_parameter_list l o.1 >>= λ s. read_behind_patterns l o.0 (o.0 ∷ s.0.marks) s.0.items s.0.height s.1
+read_fun_clause l ts = expect (mark (codes "(")) ts >>= λ o. read_parameters l.pattern o.1 >>= λ s. read_behind_patterns l o.0 (o.0 ∷ s.0.marks) s.0.items s.0.height s.1
 
 -- whether a token may be the class of an exception
 abbrev pub may_be_class : Token → Bool

@@ -1,12 +1,7 @@
-pub mod Heights
-pub mod Tokens
-pub mod Views
-pub mod Scan
-pub mod Parts
-pub mod Patterns
-pub mod Outside
 pub mod Operations
 pub mod Waiting
 pub mod GuardNames
 pub mod Expressions
+pub mod Levels
 pub mod Answers
+pub mod SmallTexts

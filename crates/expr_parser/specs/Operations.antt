@@ -6,13 +6,13 @@ use Rattle.erl_tree.specs.declared.expr.BinaryOp.{BinaryOp}
 use Rattle.erl_tree.specs.declared.expr.ExprKind.{ExprKind}
 use Rattle.erl_tree.specs.declared.expr.ExprKind.TheVariants as X
 use Rattle.erl_grammar.specs.Operators.{priority, unary_priority, left_priority, right_priority}
-use Rattle.expr_parser.specs.declared.height.Measured.{Measured}
+use Rattle.token_readers.specs.declared.height.Measured.{Measured}
 use Rattle.expr_parser.specs.declared.operators.Waiting.{Waiting}
 use Rattle.expr_parser.specs.declared.operators.Waiting.TheVariants.{Sign, Operator}
-use Rattle.expr_parser.specs.declared.fault.ParseFault.TheVariants as faults
-use Rattle.expr_parser.specs.Heights.{higher}
-use Rattle.expr_parser.specs.Tokens.{Answer, Reads, ◌>>=◌, in_case, unexpected, sign, operator, ended}
-use Rattle.expr_parser.specs.Patterns.{built, within}
+use Rattle.token_readers.specs.declared.fault.ParseFault.TheVariants as faults
+use Rattle.token_readers.specs.Heights.{higher}
+use Rattle.token_readers.specs.Tokens.{Answer, Reads, ◌>>=◌, in_case, unexpected, sign, operator, ended}
+use Rattle.token_readers.specs.Parts.{built, within}
 
 -- an expression
 abbrev pub Expr : Type 0

@@ -3,13 +3,13 @@ use Rattle.std.specs.Prelude.{ℕ, suc, ◌+◌, ◌≤◌, ◌-◌, List, [], �
 use Rattle.erl_tree.specs.declared.token.Place.{Place}
 use Rattle.erl_tree.specs.declared.expr.BinaryOp.{BinaryOp}
 use Rattle.erl_grammar.specs.Operators.{left_priority}
-use Rattle.expr_parser.specs.declared.fault.ParseFault.TheVariants as faults
+use Rattle.token_readers.specs.declared.fault.ParseFault.TheVariants as faults
 use Rattle.expr_parser.specs.declared.operators.Operand.{Operand as Found}
 use Rattle.expr_parser.specs.declared.operators.Operators.{Operators}
 use Rattle.expr_parser.specs.declared.operators.Waiting.{Waiting}
 use Rattle.expr_parser.specs.declared.operators.Waiting.TheVariants.{Sign, Operator}
-use Rattle.expr_parser.specs.Tokens.{Answer}
-use Rattle.expr_parser.specs.Patterns.{within}
+use Rattle.token_readers.specs.Tokens.{Answer}
+use Rattle.token_readers.specs.Parts.{within}
 use Rattle.expr_parser.specs.Operations.{Operand, operand, Pending, asks}
 
 -- an operand that is complete

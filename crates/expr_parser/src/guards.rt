@@ -5,9 +5,9 @@ ghost use Rattle.erl_tree.specs.declared.expr.ExprKind.{out-ExprKind};
 ghost use Rattle.erl_grammar.specs.Guards as guards;
 ghost use Rattle.expr_parser.specs.GuardNames as names;
 
-use crate::tokens::same;
 use erl_grammar::Misfit;
 use erl_tree::{BinaryOp, Expr, ExprKind, Place};
+use token_readers::tokens::same;
 
 /// Whether a guard may call the function of this name with one argument, which it tests for a kind of
 /// value.

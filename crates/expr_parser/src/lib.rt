@@ -1,20 +1,25 @@
-//! The parser of patterns, and the laws of reading patterns and expressions.
+//! The parser of expressions.
 #![tactic(auto)]
 
-mod fault;
+mod blocks;
+mod bodies;
+mod calls;
+mod clauses;
+pub mod examples;
+mod expressions;
+mod function_clauses;
 mod guards;
-mod height;
-mod keys;
 pub mod laws;
+mod level;
 mod operators;
 mod parse;
-mod parts;
-mod patterns;
-mod scan;
-mod tokens;
+mod structures;
+mod tails;
 
-pub use fault::ParseFault;
-pub use parse::parse_pattern;
+pub use clauses::Front;
+pub use expressions::expr_at;
+pub use function_clauses::clause_at;
+pub use parse::parse_expr;
 
 #[cfg(test)]
 mod printed;

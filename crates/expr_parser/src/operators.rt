@@ -3,15 +3,15 @@
 ghost use Rattle.std.specs.Prelude.{◌≡◌, ◌<◌, ◌≤◌, ◌+◌, ◌-◌, ◌^◌, ◌∷◌, [], length, max, IfOk, MatchOption};
 ghost use Rattle.erl_grammar.specs.Operators as table;
 ghost use Rattle.expr_parser.specs.Operations as operations;
-ghost use Rattle.expr_parser.specs.Tokens.{Gives};
+ghost use Rattle.token_readers.specs.Tokens.{Gives};
 ghost use Rattle.expr_parser.specs.Waiting.{operand_seen, waits, left_depth, FitIn, asks_last, taken};
 
-use crate::fault::ParseFault;
-use crate::height::Measured;
-use crate::parts::built;
 use erl_tree::{BinaryOp, Expr, ExprKind, Place, UnaryOp};
 use smallvec::SmallVec;
 use std::alloc::Global;
+use token_readers::ParseFault;
+use token_readers::height::Measured;
+use token_readers::parts::built;
 use type_terms::{List, NoMemory};
 
 /// How tightly an operator in front of its operand binds.

@@ -1,39 +1,39 @@
-//! Trees of whole texts.
+//! Expressions of whole texts.
 
 ghost use Rattle.std.specs.Prelude.{◌≡◌, IfOk, IsErrOf};
 ghost use Rattle.erl_tree.specs.Lists.{Among};
 ghost use Rattle.erl_tree.specs.declared.token.Place.{Place as Spot};
 ghost use Rattle.type_terms.specs.Keys.{Name};
-ghost use Rattle.erl_grammar.specs.Grammar.{IsPattern};
-ghost use Rattle.erl_grammar.specs.Nesting.{nesting_limit, pattern_deep, IsPatternWithin};
-ghost use Rattle.expr_parser.specs.Tokens.{Gives};
-ghost use Rattle.expr_parser.specs.Outside.{HasOutside};
-ghost use Rattle.expr_parser.specs.Patterns.{Pattern as PatternTree};
-ghost use Rattle.expr_parser.specs.Patterns.{read_whole_pattern};
-ghost use Rattle.expr_parser.specs.Answers.{IsPatternText, IsOrNoMemory};
+ghost use Rattle.erl_grammar.specs.Grammar.{IsExpr};
+ghost use Rattle.erl_grammar.specs.Nesting.{nesting_limit, expr_deep, IsExprWithin};
+ghost use Rattle.token_readers.specs.Tokens.{Gives};
+ghost use Rattle.token_readers.specs.Outside.{HasOutside};
+ghost use Rattle.token_readers.specs.Answers.{IsOrNoMemory};
+ghost use Rattle.expr_parser.specs.Operations.{Expr as ExprTree};
+ghost use Rattle.expr_parser.specs.Expressions.{read_whole_expr};
+ghost use Rattle.expr_parser.specs.Answers.{IsText};
 
-use crate::fault::ParseFault;
-use crate::patterns::pattern_at;
-use crate::tokens::{end, unexpected};
-use erl_tree::{Pattern, Placed};
+use crate::expressions::expr_at;
+use erl_tree::{Expr, Placed};
 use std::alloc::Global;
+use token_readers::ParseFault;
+use token_readers::height::NESTING_LIMIT;
+use token_readers::tokens::{end, unexpected};
 use type_terms::List;
 
-/// The most levels that a tree has.
-const NESTING_LIMIT: usize = 256;
-
-/// A pattern, and the end of the text.
-fn whole_pattern(alloc: Global, tokens: &List<Placed>) -> Result<Pattern, ParseFault>
-    ensures exact { Gives (λ x. x) result (read_whole_pattern tokens.now) }
+/// An expression, and the end of the text.
+#[tactic(auto, unfolding(crate::specs::Expressions::read_whole_expr))]
+fn whole_expr(alloc: Global, tokens: &List<Placed>) -> Result<Expr, ParseFault>
+    ensures exact { Gives (λ x. x) result (read_whole_expr nesting_limit tokens.now) }
 {
-    let (pattern, rest) = pattern_at(alloc, tokens.as_slice(), NESTING_LIMIT)?;
+    let (expr, rest) = expr_at(alloc, tokens.as_slice(), NESTING_LIMIT)?;
     match end(rest) {
         None => Err(unexpected(rest)),
-        Some(_) => Ok(pattern.tree),
+        Some(_) => Ok(expr.tree),
     }
 }
 
-/// The pattern that these tokens are, of which the last is the end of the text, nested at most 256
+/// The expression that these tokens are, of which the last is the end of the text, nested at most 256
 /// levels deep (`docs/EXPRESSIONS.md`).
 ///
 /// # Errors
@@ -41,18 +41,18 @@ fn whole_pattern(alloc: Global, tokens: &List<Placed>) -> Result<Pattern, ParseF
 /// `OutOfProfile` where a form that is outside of the profile stands, by its place and its name;
 /// `TooDeep` with the place of a node that is nested deeper; `Unexpected` with the place of the token
 /// that fits nowhere; `NoMemory` where memory runs out.
-pub fn parse_pattern(alloc: Global, tokens: &List<Placed>) -> Result<Pattern, ParseFault>
-    // What is given is a well-formed pattern with exactly these tokens, nested within the limit.
-    ensures found { IfOk result (λ p. IsPattern p × IsPatternWithin nesting_limit p × IsPatternText p tokens.now) }
-    // A well-formed pattern with these tokens, nested within the limit, is what is given, unless memory
-    // runs out.
-    ensures complete { (p : PatternTree) → IsPattern p → IsPatternWithin nesting_limit p → IsPatternText p tokens.now → IsOrNoMemory p result }
-    // In every well-formed pattern with these tokens a node that is nested too deep begins there.
-    ensures too_deep { (q : Spot) → IsErrOf result (ParseFault.TooDeep q) → (p : PatternTree) → IsPattern p → IsPatternText p tokens.now → Among q (pattern_deep p nesting_limit) }
-    // No well-formed pattern has these tokens.
-    ensures unexpected { (q : Spot) → IsErrOf result (ParseFault.Unexpected q) → (p : PatternTree) → IsPattern p → IsPatternText p tokens.now → ⊥ }
-    // The form stands there, and no well-formed pattern has these tokens.
-    ensures outside { (q : Spot) (form : Name) → IsErrOf result (ParseFault.OutOfProfile q form) → HasOutside tokens.now q form × ((p : PatternTree) → IsPattern p → IsPatternText p tokens.now → ⊥) }
+pub fn parse_expr(alloc: Global, tokens: &List<Placed>) -> Result<Expr, ParseFault>
+    // What is given is a well-formed expression with exactly these tokens, nested within the limit.
+    ensures found { IfOk result (λ e. IsExpr 0 e × IsExprWithin nesting_limit e × IsText e tokens.now) }
+    // A well-formed expression with these tokens, nested within the limit, is what is given, unless
+    // memory runs out.
+    ensures complete { (e : ExprTree) → IsExpr 0 e → IsExprWithin nesting_limit e → IsText e tokens.now → IsOrNoMemory e result }
+    // In every well-formed expression with these tokens a node that is nested too deep begins there.
+    ensures too_deep { (p : Spot) → IsErrOf result (ParseFault.TooDeep p) → (e : ExprTree) → IsExpr 0 e → IsText e tokens.now → Among p (expr_deep e nesting_limit) }
+    // No well-formed expression has these tokens.
+    ensures unexpected { (p : Spot) → IsErrOf result (ParseFault.Unexpected p) → (e : ExprTree) → IsExpr 0 e → IsText e tokens.now → ⊥ }
+    // The form stands there, and no well-formed expression has these tokens.
+    ensures outside { (p : Spot) (form : Name) → IsErrOf result (ParseFault.OutOfProfile p form) → HasOutside tokens.now p form × ((e : ExprTree) → IsExpr 0 e → IsText e tokens.now → ⊥) }
 {
-    whole_pattern(alloc, tokens)
+    whole_expr(alloc, tokens)
 }

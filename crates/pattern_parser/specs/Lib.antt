@@ -1,0 +1,4 @@
+pub mod Scan
+pub mod Patterns
+pub mod Views
+pub mod Answers

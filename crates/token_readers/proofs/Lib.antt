@@ -1,0 +1,11 @@
+pub mod Right
+pub mod HeightLaws
+pub mod Then
+pub mod TokenLaws
+pub mod Endings
+pub mod PartLaws
+pub mod LoopLaws
+pub mod ParseLaws
+pub mod ParameterLoops
+pub mod ParameterLaws
+pub mod ArrowLaws
