@@ -1,0 +1,4 @@
+pub mod Forms
+pub mod Views
+pub mod AttributeNames
+pub mod Answers
