@@ -1,0 +1,10 @@
+pub mod Layers
+pub mod Lists
+pub mod TypeLaws
+pub mod FlatExprs
+pub mod WholeExprs
+pub mod Shapes
+pub mod SpecLaws
+pub mod FunctionLaws
+pub mod ModuleLaws
+pub mod SmallExamples
