@@ -13,3 +13,4 @@ pub mod FormGrammar
 pub mod SmallTrees
 pub mod SmallTypes
 pub mod SmallForms
+pub mod Texts

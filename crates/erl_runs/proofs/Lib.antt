@@ -10,4 +10,5 @@ pub mod MoreSteps
 pub mod MembershipExamples
 pub mod MeaningLaws
 pub mod TypeExamples
+pub mod TextExamples
 pub mod RunExamples

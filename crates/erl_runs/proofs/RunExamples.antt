@@ -1,6 +1,6 @@
 -- Small examples of runs.
-use Rattle.std.proofs.Common.{◌≡◌, refl, sym, ◌∙◌, ap, subst, ℕ, zero, suc, pos, [], ◌∷◌, length, arith}
-use Rattle.std.specs.Prelude.{codes}
+use Rattle.std.proofs.Common.{◌≡◌, refl, ◌∙◌, ap, ℕ, zero, suc, pos, [], ◌∷◌, length, arith}
+use Rattle.std.specs.Prelude.{None, codes}
 use Rattle.erl_tree.specs.declared.expr.BinaryOp.TheVariants.{Add}
 use Rattle.erl_tree.specs.declared.expr.ExprKind.{ExprKind}
 use Rattle.erl_tree.specs.declared.expr.ExprKind.TheOpen as E
@@ -10,14 +10,18 @@ use Rattle.erl_tree.specs.declared.expr.AssocKind.{AssocKind}
 use Rattle.erl_tree.specs.declared.expr.CatchKind.{CatchKind}
 use Rattle.erl_tree.specs.declared.expr.ItemKind.TheVariants as I
 use Rattle.erl_tree.specs.declared.pattern.PatternKind.TheVariants as P
-use Rattle.erl_tree.specs.declared.expr.ClauseKind.{ClauseKind, out-roll-ClauseKind}
+use Rattle.erl_tree.specs.declared.expr.ClauseKind.{ClauseKind, roll-ClauseKind, out-roll-ClauseKind}
 use Rattle.erl_runs.specs.Value.{integer, named_fun, Environment, no_bindings, going}
 use Rattle.erl_runs.specs.Matching.{with_variable, match_layer, match_next, match_patterns}
 use Rattle.erl_runs.specs.Running.{gives, goes_wrong, then, Applies, operate, run_expression, run_item_layer, run_matched, run_clause, run_clauses, apply}
-use Rattle.erl_tree.specs.Grammar.{is_pattern_layer, is_item_layer, is_clause_layer, IsFunction, IsExpr, one_product, one_operand, variable, call, last_argument}
+use Rattle.erl_grammar.specs.declared.head.Head.TheVariants.{Plain, OfCall}
+use Rattle.erl_grammar.specs.Grammar.{node, IsPattern, one_pattern, variable_pattern, IsExpr, postfix, variable, call, IsItem, value, no_guard}
+use Rattle.erl_grammar.specs.FormGrammar.{IsFunctionClause, function_clause, IsFunction, function}
+use Rattle.erl_grammar.specs.SmallTrees.{var_at}
+use Rattle.erl_grammar.proofs.Layers.{each}
 use Rattle.erl_runs.specs.SmallPrograms.{one, endless_code}
 use Rattle.erl_tree.specs.SmallText.{place}
-use Rattle.erl_tree.specs.SmallTrees.{int_at, atom_at, one_and_two, one_and_atom, self_call, self_call_layer, calls_itself}
+use Rattle.erl_runs.specs.SmallTrees.{int_at, atom_at, one_and_two, one_and_atom, self_call, self_call_layer, calls_itself}
 use Rattle.erl_runs.proofs.MeaningLaws.{run_kind-Int, run_kind-Atom, run_kind-Var, run_kind-Binary, run_kind-Call}
 use Rattle.erl_runs.proofs.BoundFree.{apply-none, apply-step}
 
@@ -53,21 +57,15 @@ self_call-clause applies steps =
     ∙ (ap (λ l. run_item_layer applies l bound_one steps) (I.outs-Value self_call)
     ∙ self_call-runs applies steps))
 
-call-formed : IsExpr self_call
-call-formed = one_product _ (one_operand _ (call (place 7) (place 8) _ (codes "f") _ (last_argument _ (place 10) (one_product _ (one_operand _ (variable (place 9) (codes "X")))))))
+call-formed : IsExpr 0 self_call
+call-formed = postfix 0 OfCall _ (call (place 7) (place 8) (place 10) [] (codes "f") _ refl tt (each (IsExpr 0) (var_at (codes "X") 9 ∷ []) (postfix 0 Plain _ (variable (place 9) (codes "X")), tt)))
 
-layer-formed : is_clause_layer self_call_layer (place 1) (place 1 ∷ place 2 ∷ place 4 ∷ place 5 ∷ [])
-layer-formed = (
-  refl,
-  refl,
-  (subst (λ l. is_pattern_layer l (place 3) (place 3 ∷ [])) (sym (P.outs-Var (codes "X"))) refl, tt),
-  omega arith,
-  tt,
-  subst (λ l. is_item_layer l (place 7) []) (sym (I.outs-Value self_call)) (refl, call-formed),
-)
+clause-formed : IsFunctionClause (node (place 1) (place 1 ∷ place 2 ∷ place 4 ∷ place 5 ∷ []) (roll-ClauseKind self_call_layer))
+clause-formed = function_clause (place 1) (place 2) (place 4) (place 5) self_call_layer.patterns None [] [] [] _ [] (omega arith) tt
+    (each IsPattern self_call_layer.patterns (one_pattern _ (variable_pattern (place 3) (codes "X")), tt)) no_guard tt (each IsItem self_call_layer.body (value self_call call-formed, tt))
 
 pub formed : IsFunction calls_itself
-formed = (refl, subst (λ l. is_clause_layer l (place 1) (place 1 ∷ place 2 ∷ place 4 ∷ place 5 ∷ [])) (sym (out-roll-ClauseKind self_call_layer)) layer-formed)
+formed = function (codes "f") (place 11) [] _ [] tt (each IsFunctionClause calls_itself.clauses (clause-formed, tt))
 
 pub endless : (steps : ℕ) → (apply endless_code (named_fun (codes "f") 1) (one ∷ []) steps).outcome ≡ going
 endless zero = ap (λ r. r.outcome) (apply-none endless_code (named_fun (codes "f") 1) (one ∷ []))

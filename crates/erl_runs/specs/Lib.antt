@@ -6,4 +6,5 @@ pub mod Membership
 pub mod Matching
 pub mod Running
 pub mod Safety
+pub mod SmallTrees
 pub mod SmallPrograms

@@ -18,8 +18,6 @@ use Rattle.erl_tree.specs.declared.form.Function.{Function}
 use Rattle.erl_tree.specs.declared.form.Module.{Module}
 use Rattle.erl_tree.specs.Functions.{FunctionId, of_function, functions_of, function_ids}
 use Rattle.erl_runs.specs.Specs.{read_specs, specs_of, spec_id}
-use Rattle.erl_tree.specs.Grammar.{IsWellFormed}
-use Rattle.erl_tree.specs.Limits.{IsShallow, HasIntegersInLimit}
 
 -- ---- variables
 
@@ -124,22 +122,3 @@ pub record IsReadable (m : Module) : Type 0 where
   pub defined : Every (λ id. Among id (function_ids m)) (map spec_id (specs_of m))
   pub scoped : Every IsScoped (functions_of m)
   pub calls_defined : Every (FunctionCallsOnly (function_ids m ++ built_ins)) (functions_of m)
-
--- ---- flat modules
-
--- the variables of a head are distinct
-abbrev pub HasDistinctHead : Node ClauseKind → Type 0
-HasDistinctHead c = AreDistinct (bound_by (out-ClauseKind c.kind).patterns)
-
--- the same of each clause
-abbrev pub HasDistinctHeads : Function → Type 0
-HasDistinctHeads f = Every HasDistinctHead f.clauses
-
--- a flat module: well formed in the part of the grammar that is written so far, readable, with distinct variables in each head, calls of its own functions alone, nested at most 256 levels deep, and with integers within the limit
-pub record IsFlatModule (m : Module) : Type 0 where
-  pub well_formed : IsWellFormed m
-  pub readable : IsReadable m
-  pub distinct_heads : Every HasDistinctHeads (functions_of m)
-  pub own_calls : Every (FunctionCallsOnly (function_ids m)) (functions_of m)
-  pub shallow : IsShallow m
-  pub in_limit : HasIntegersInLimit m

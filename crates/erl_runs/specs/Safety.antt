@@ -1,4 +1,4 @@
--- When a module and a text are safe: the claim that an accepted text keeps.
+-- When a module and a text are safe: the claim that an accepted text keeps. It is said of every module; but what names are used rightly (`Readable`) and what runs do (`Running`) is written for flat modules so far, and a text is accepted only where its module is flat.
 use Rattle.std.specs.Prelude.{◌≡◌, ℕ, List}
 use Rattle.std.specs.List.{Contains}
 use Rattle.type_terms.specs.declared.term.Def.{Def}
@@ -15,7 +15,7 @@ use Rattle.erl_tree.specs.Lists.{Among}
 use Rattle.erl_tree.specs.Functions.{functions_of, clauses_arity}
 use Rattle.erl_runs.specs.Specs.{specs_of}
 use Rattle.erl_runs.specs.Readable.{IsReadable}
-use Rattle.erl_tree.specs.Grammar.{SpellsModule}
+use Rattle.erl_grammar.specs.Texts.{SpellsModule}
 use Rattle.erl_runs.specs.Value.{Value, named_fun, Run, came}
 use Rattle.erl_runs.specs.Membership.{Program, InTerm, values_in, arrows_of, IsGoodRun}
 use Rattle.erl_runs.specs.Running.{apply, code_of, program_of}
@@ -37,7 +37,7 @@ IsSafe m specs defs =
     AlwaysIn (program_of (code_of m outside) specs defs) args arrow.params i →
     IsRightRun (program_of (code_of m outside) specs defs) (apply (code_of m outside) (named_fun f.name (clauses_arity f.clauses)) args steps) arrow.result i
 
--- the bytes spell exactly one module, in which names are used rightly, and which is safe
+-- the bytes spell exactly one module, in which names are used rightly (as far as that is written), and which is safe
 pub record IsSafeText (bytes : List ℕ) : Type 0 where
   pub tree : Module
   pub spelled : SpellsModule bytes tree

@@ -5,7 +5,7 @@ use Rattle.type_terms.specs.declared.term.Term.{Term, Ints, AtomLit, AnyAtom, Or
 use Rattle.type_terms.specs.Definitions.{given_definitions}
 use Rattle.type_terms.specs.Instances.{Instance, no_variables, variable_and}
 use Rattle.type_terms.specs.Keys.{Name}
-use Rattle.erl_tree.specs.SmallTrees.{calls_itself}
+use Rattle.erl_runs.specs.SmallTrees.{calls_itself}
 use Rattle.erl_runs.specs.Value.{Value, integer, atom, nil, cons, came, wrong, going, Run}
 use Rattle.erl_runs.specs.Membership.{Program, InTerm}
 use Rattle.erl_runs.specs.Running.{Code}

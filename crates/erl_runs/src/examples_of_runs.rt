@@ -1,10 +1,10 @@
 //! Small runs, each the contract of a function that does nothing.
 
 ghost use Rattle.std.specs.Prelude.{◌≡◌, ℕ, pos, [], ◌∷◌, codes};
-ghost use Rattle.erl_tree.specs.Grammar.{IsFunction};
+ghost use Rattle.erl_grammar.specs.FormGrammar.{IsFunction};
 ghost use Rattle.erl_runs.specs.Running.{Applies, gives, goes_wrong, run_expression, apply};
 ghost use Rattle.erl_runs.specs.SmallPrograms.{one, endless_code};
-ghost use Rattle.erl_tree.specs.SmallTrees.{one_and_two, one_and_atom, calls_itself};
+ghost use Rattle.erl_runs.specs.SmallTrees.{one_and_two, one_and_atom, calls_itself};
 ghost use Rattle.erl_runs.specs.Value.{Environment, integer, named_fun, going};
 
 /// `1+2` gives 3, and `1+a` goes wrong, in every environment and with the steps left as they were.

@@ -1,8 +1,8 @@
 //! Small types and their terms, each the contract of a function that does nothing.
 
 ghost use Rattle.std.specs.Prelude.{◌≡◌, pos, Some, None};
-ghost use Rattle.erl_tree.specs.Grammar.{IsType};
-ghost use Rattle.erl_tree.specs.SmallTrees.{range_type_of, range_or_atom};
+ghost use Rattle.erl_grammar.specs.TypeGrammar.{IsType};
+ghost use Rattle.erl_runs.specs.SmallTrees.{range_type_of, range_or_atom};
 ghost use Rattle.erl_runs.specs.SmallPrograms.{range_or_atom_term};
 ghost use Rattle.erl_runs.specs.Specs.{type_term};
 

@@ -4,5 +4,6 @@
 
 pub mod examples;
 pub mod examples_of_runs;
+pub mod examples_of_texts;
 pub mod examples_of_types;
 pub mod laws;

@@ -6,9 +6,3 @@ pub mod Escapes
 pub mod Lexed
 pub mod Answered
 pub mod TextExamples
-pub mod TreeLaws
-pub mod EveryLaws
-pub mod GrammarLaws
-pub mod WellFormedParts
-pub mod Shallower
-pub mod TreeExamples

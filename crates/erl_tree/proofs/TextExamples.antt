@@ -11,9 +11,7 @@ use Rattle.erl_tree.specs.declared.token.Token.TheVariants.{Atom, Var, Int, Str,
 use Rattle.erl_tree.specs.Lexis.{every, is_lower, is_upper, is_digit, is_grouped, is_based, decimal, integer_value, when, IsLongest, is_token_text, token_of, Spells, SpellsTokens, start}
 use Rattle.erl_tree.specs.Profile.{begins_gap, outside_form, bad_escape, BeginsWith, IsLexed, IsOutsideAt, IsWideAt, IsBadEscapeAt, IsBadTokenAt}
 use Rattle.erl_tree.specs.Faults.{IsFaultAt, wide}
-use Rattle.erl_tree.specs.SmallText.{place, placed, small_text, small_module, text_with_a_string, tokens_with_a_string}
-use Rattle.erl_tree.specs.Spelling.{tokens_of}
-use Rattle.erl_tree.specs.Grammar.{IsWellFormed, SpellsModule}
+use Rattle.erl_tree.specs.SmallText.{place, placed, small_text, small_tokens, text_with_a_string, tokens_with_a_string}
 use Rattle.erl_tree.proofs.TokenTexts.{NoGap, and_true, digits_grouped, token_is_text}
 use Rattle.erl_tree.proofs.Spelled.{one_text_of_bytes}
 use Rattle.erl_tree.proofs.LongestTexts.{none_from, none_longer, longest, longest_last}
@@ -45,20 +43,13 @@ spells_module : Spells (place 2) (codes "module(a).") (placed (Atom (codes "modu
 unfolding Spells token_of is_token_text
 spells_module = ([], codes "module", codes "(a).", refl, tt, refl, longest (codes "module") _ _ refl, refl, spells_open)
 
-spells_whole : Spells start small_text (tokens_of small_module)
-unfolding Spells token_of is_token_text tokens_of
+spells_whole : Spells start small_text small_tokens
+unfolding Spells token_of is_token_text
 spells_whole = ([], codes "-", codes "module(a).", refl, tt, refl, longest (codes "-") _ _ refl, refl, spells_module)
 
-small_formed : IsWellFormed small_module
-unfolding IsWellFormed
-small_formed = tt
-
-pub small_spelled : SpellsModule small_text small_module
+pub small_spelled : SpellsTokens small_text small_tokens
 unfolding encode
-small_spelled = record {
-  tokens = record { characters = small_text; are_characters = refl; encoded = refl; spelled = spells_whole };
-  well_formed = small_formed;
-}
+small_spelled = record { characters = small_text; are_characters = refl; encoded = refl; spelled = spells_whole }
 
 -- ---- what begins no token
 

@@ -1,10 +1,7 @@
 pub mod Lists
 pub mod Lexis
-pub mod Spelling
-pub mod Grammar
 pub mod Limits
 pub mod Profile
 pub mod Faults
 pub mod Functions
 pub mod SmallText
-pub mod SmallTrees

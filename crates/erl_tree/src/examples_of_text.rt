@@ -3,7 +3,6 @@
 ghost use Rattle.std.specs.Prelude.{◌≡◌, ◌∷◌, [], List, Some, None, codes, pos};
 ghost use Rattle.erl_tree.specs.Faults.{IsFaultAt, outside, wide, escape, no_token};
 ghost use Rattle.erl_tree.specs.Lexis.{IsLongest, SpellsTokens, token_of};
-ghost use Rattle.erl_tree.specs.Grammar.{SpellsModule};
 ghost use Rattle.erl_tree.specs.Profile.{IsLexed, bad_escape, outside_form};
 ghost use Rattle.erl_tree.specs.declared.token.Placed.{Placed as Entry};
 ghost use Rattle.erl_tree.specs.declared.token.Token.TheVariants.{
@@ -19,14 +18,14 @@ ghost use Rattle.erl_tree.specs.declared.token.Token.TheVariants.{
 ghost use Rattle.erl_tree.specs.SmallText.{
   place,
   small_text,
-  small_module,
+  small_tokens,
   text_with_a_string,
   tokens_with_a_string,
 };
 
-/// The text `-module(a).` spells the module named `a` without forms, with the places of its tokens.
+/// The text `-module(a).` spells seven tokens, the end of the text among them, each at its place.
 pub fn a_text_that_is_spelled()
-    ensures { SpellsModule small_text small_module }
+    ensures { SpellsTokens small_text small_tokens }
 {}
 
 /// The text `$` spells no tokens, since a character has to follow the dollar sign.

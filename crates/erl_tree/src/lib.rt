@@ -2,7 +2,6 @@
 #![tactic(auto)]
 
 pub mod examples_of_text;
-pub mod examples_of_trees;
 mod expr;
 mod form;
 pub mod laws_of_text;

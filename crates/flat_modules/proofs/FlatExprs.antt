@@ -13,11 +13,11 @@ use Rattle.erl_tree.specs.declared.expr.BinaryOp.TheVariants.{Add, Sub, Mul}
 use Rattle.erl_tree.specs.declared.expr.ExprKind.{ExprKind}
 use Rattle.erl_tree.specs.declared.expr.ExprKind.TheVariants as X
 use Rattle.erl_tree.specs.declared.expr.ExprKind.TheOpen as E
-use Rattle.erl_tree.specs.Grammar.{node}
-use Rattle.erl_tree.specs.Grammar as F
-use Rattle.erl_tree.specs.Spelling.{mark, operator_text, operation_tokens}
-use Rattle.erl_tree.specs.Spelling as FS
-use Rattle.erl_tree.proofs.TreeLaws as FL
+use Rattle.flat_modules.specs.Grammar.{node}
+use Rattle.flat_modules.specs.Grammar as F
+use Rattle.flat_modules.specs.Spelling.{mark, operator_text, operation_tokens}
+use Rattle.flat_modules.specs.Spelling as FS
+use Rattle.flat_modules.proofs.TreeLaws as FL
 use Rattle.erl_grammar.specs.declared.head.Head.TheVariants.{Plain, OfCall}
 use Rattle.erl_grammar.specs.Operators.{operator_token}
 use Rattle.erl_grammar.specs.Pieces.{own, inner, fill, commas}

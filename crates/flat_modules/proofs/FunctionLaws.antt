@@ -16,10 +16,10 @@ use Rattle.erl_tree.specs.declared.expr.ItemKind.{ItemKind}
 use Rattle.erl_tree.specs.declared.expr.ItemKind.TheVariants as I
 use Rattle.erl_tree.specs.declared.expr.ClauseKind.{ClauseKind, out-roll-ClauseKind}
 use Rattle.erl_tree.specs.declared.form.Function.{Function}
-use Rattle.erl_tree.specs.Grammar.{node, AreParamMarks}
-use Rattle.erl_tree.specs.Grammar as F
-use Rattle.erl_tree.specs.Spelling.{at, atom, mark, params_tokens}
-use Rattle.erl_tree.specs.Spelling as FS
+use Rattle.flat_modules.specs.Grammar.{node, AreParamMarks}
+use Rattle.flat_modules.specs.Grammar as F
+use Rattle.flat_modules.specs.Spelling.{at, atom, mark, params_tokens}
+use Rattle.flat_modules.specs.Spelling as FS
 use Rattle.erl_grammar.specs.Pieces.{inner, fill, commas}
 use Rattle.erl_grammar.specs.Pieces as P
 use Rattle.erl_grammar.specs.Grammar.{AreSeparators, IsArity, IsPattern, one_pattern, alias, variable_pattern, IsItem, value, match_item, IsWhen, no_guard, when_guard, clause_of}

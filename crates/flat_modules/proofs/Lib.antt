@@ -1,3 +1,5 @@
+pub mod TreeLaws
+pub mod GrammarLaws
 pub mod Layers
 pub mod Lists
 pub mod TypeLaws
@@ -8,3 +10,5 @@ pub mod SpecLaws
 pub mod FunctionLaws
 pub mod ModuleLaws
 pub mod SmallExamples
+pub mod InProfile
+pub mod FlatLaws

@@ -8,8 +8,8 @@ use Rattle.erl_tree.specs.declared.token.Place.{Place}
 use Rattle.erl_tree.specs.declared.token.Placed.{Placed}
 use Rattle.erl_tree.specs.declared.token.Node.{Node}
 use Rattle.erl_tree.specs.declared.expr.ExprKind.{ExprKind}
-use Rattle.erl_tree.specs.Spelling.{mark, params_tokens, arguments_tokens}
-use Rattle.erl_tree.specs.Grammar.{AreParamMarks, IsExpr, AreArguments, no_arguments, last_argument, more_arguments}
+use Rattle.flat_modules.specs.Spelling.{mark, params_tokens, arguments_tokens}
+use Rattle.flat_modules.specs.Grammar.{AreParamMarks, IsExpr, AreArguments, no_arguments, last_argument, more_arguments}
 use Rattle.erl_grammar.specs.Pieces.{inner, fill, commas}
 use Rattle.erl_grammar.specs.Pieces as P
 use Rattle.erl_grammar.specs.Grammar.{AreSeparators}
@@ -23,6 +23,10 @@ every Q (x ∷ xs) h = (h x (inl refl), every Q xs (λ y i. h y (inr i)))
 pub every-so : {A : Type 0} (Q R : A → Type 0) (xs : List A) → ((x : A) → Q x → R x) → Every Q xs → Every R xs
 every-so Q R [] f h = tt
 every-so Q R (x ∷ xs) f h = (f x h.0, every-so Q R xs f h.1)
+
+pub every-split : {A : Type 0} (Q : A → Type 0) (xs ys : List A) → Every Q (xs ++ ys) → Every Q xs × Every Q ys
+every-split Q [] ys h = (tt, h)
+every-split Q (x ∷ xs) ys h = let k : Every Q xs × Every Q ys = every-split Q xs ys h.1 in ((h.0, k.0), k.1)
 
 pub all-among : {A : Type 0} (test : A → Bool) (xs : List A) → list_all test xs ≡ true → (x : A) → Among x xs → test x ≡ true
 all-among test [] h x i = absurd i

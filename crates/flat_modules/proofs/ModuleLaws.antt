@@ -10,10 +10,10 @@ use Rattle.erl_tree.specs.declared.token.Token.TheVariants as T
 use Rattle.erl_tree.specs.declared.form.TreeForm.{TreeForm}
 use Rattle.erl_tree.specs.declared.form.TreeForm.TheVariants as V
 use Rattle.erl_tree.specs.declared.form.Module.{Module}
-use Rattle.erl_tree.specs.Grammar.{IsWellFormed}
-use Rattle.erl_tree.specs.Grammar as F
-use Rattle.erl_tree.specs.Spelling.{at, atom, mark, tokens_of}
-use Rattle.erl_tree.specs.Spelling as FS
+use Rattle.flat_modules.specs.Grammar.{IsWellFormed}
+use Rattle.flat_modules.specs.Grammar as F
+use Rattle.flat_modules.specs.Spelling.{at, atom, mark, tokens_of}
+use Rattle.flat_modules.specs.Spelling as FS
 use Rattle.erl_grammar.specs.FormGrammar.{IsModule, module_of}
 use Rattle.erl_grammar.specs.FormGrammar as G
 use Rattle.erl_grammar.specs.FormSpelling.{module_tokens}

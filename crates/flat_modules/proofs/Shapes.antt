@@ -20,8 +20,8 @@ use Rattle.erl_tree.specs.declared.expr.CatchKind.{CatchKind}
 use Rattle.erl_tree.specs.declared.form.SpecKind.{SpecKind}
 use Rattle.erl_tree.specs.declared.form.SpecClauseKind.{SpecClauseKind}
 use Rattle.erl_tree.specs.declared.form.Function.{Function}
-use Rattle.erl_tree.specs.Spelling.{at, atom, mark, params_tokens, pattern_tokens, expr_tokens, body_tokens, function_tokens, clause_layer}
-use Rattle.erl_tree.specs.Grammar.{node, IsType, is_pattern_layer, IsPattern, IsExpr, is_item_layer, IsBody, IsArity, AreParamMarks, is_clause_layer, is_function_layer, IsFunction, is_spec_clause_layer, IsSpecClause, is_spec_layer, IsSpec}
+use Rattle.flat_modules.specs.Spelling.{at, atom, mark, params_tokens, pattern_tokens, expr_tokens, body_tokens, function_tokens, clause_layer}
+use Rattle.flat_modules.specs.Grammar.{node, IsType, is_pattern_layer, IsPattern, IsExpr, is_item_layer, IsBody, IsArity, AreParamMarks, is_clause_layer, is_function_layer, IsFunction, is_spec_clause_layer, IsSpecClause, is_spec_layer, IsSpec}
 use Rattle.erl_grammar.specs.Grammar.{clause_of}
 
 -- where the place and the kind are those of another node

@@ -3,7 +3,7 @@ use Rattle.std.proofs.Common.{◌≡◌, refl, ap, sym, subst, ◌∙◌, ℕ, p
 use Rattle.std.specs.Prelude.{None, codes}
 use Rattle.std.proofs.lemmas.Bool.{true≢false}
 use Rattle.erl_tree.specs.Lists.{Among}
-use Rattle.erl_tree.specs.SmallText.{place}
+use Rattle.erl_tree.specs.SmallText.{place, small_module}
 use Rattle.erl_tree.specs.declared.token.Node.{Node}
 use Rattle.erl_tree.specs.declared.expr.BinaryOp.TheVariants.{Add}
 use Rattle.erl_tree.specs.declared.expr.ExprKind.{ExprKind}
@@ -19,8 +19,8 @@ use Rattle.erl_tree.specs.declared.form.Function.{Function}
 use Rattle.erl_tree.specs.declared.form.TreeForm.{TreeForm}
 use Rattle.erl_tree.specs.declared.form.TreeForm.TheVariants as V
 use Rattle.erl_tree.specs.declared.form.Module.{Module}
-use Rattle.erl_tree.specs.Grammar.{IsWellFormed}
-use Rattle.erl_tree.specs.Grammar as F
+use Rattle.flat_modules.specs.Grammar.{IsWellFormed}
+use Rattle.flat_modules.specs.Grammar as F
 use Rattle.erl_grammar.specs.declared.head.Head.TheVariants.{Plain}
 use Rattle.erl_grammar.specs.Guards.{is_arity_layer, is_call_in_profile}
 use Rattle.erl_grammar.specs.Grammar.{node, clause_of, IsItem, value, match_item, no_guard}
@@ -29,7 +29,11 @@ use Rattle.erl_grammar.specs.FormGrammar.{IsModule, module_of, IsForm, IsFunctio
 use Rattle.erl_grammar.specs.FormGrammar as GF
 use Rattle.erl_grammar.proofs.Layers.{each, postfix_layer, expr-layer}
 use Rattle.erl_grammar.proofs.Layers as GL
+use Rattle.erl_grammar.specs.FormSpelling.{module_tokens}
+use Rattle.erl_runs.specs.Specs.{specs_of}
+use Rattle.erl_runs.proofs.TextExamples.{small_module_spelled}
 use Rattle.flat_modules.specs.Flat.{flat_item_layer, flat_clause_layer, is_flat_expr, is_flat}
+use Rattle.flat_modules.specs.FlatModules.{IsFlatModule}
 use Rattle.flat_modules.specs.SmallModules.{clause_with, function_with, module_with, sum_of_two, module_with_sum, empty_tuple, module_with_tuple, two_atoms, call_outside, module_with_call}
 use Rattle.flat_modules.proofs.Layers.{flat_expr_of, flat_expr-out}
 use Rattle.flat_modules.proofs.ModuleLaws.{module-passing}
@@ -134,3 +138,21 @@ call-not-whole h =
     let layer : is_call_in_profile (codes "is_function") two_atoms ≡ true = subst (GL.expr_layer 0) (X.outs-Call None (codes "is_function") two_atoms) (expr-layer 0 call_outside (expr-formed call_outside 34 35 h)) in
     let wrong : false ≡ true = sym (ap is_arity_layer (X.outs-Atom (codes "a"))) ∙ layer in
     absurd (true≢false (sym wrong))
+
+-- ---- specs
+
+pub no-functions : IsFlatModule small_module
+unfolding is_flat specs_of module_tokens
+no-functions = record {
+  well_formed = small_module_spelled.well_formed;
+  flat = refl;
+  readable = record { specs_read = refl; functions_distinct = tt; not_built_in = tt; specs_distinct = tt; specified = tt; defined = tt; scoped = tt; calls_defined = tt };
+  distinct_heads = tt;
+  own_calls = tt;
+  within = refl;
+  in_limit = ((λ i. i), ((λ i. i), ((λ i. i), ((λ i. i), ((λ i. i), ((λ i. i), ((λ i. i), tt)))))));
+}
+
+pub no-spec : IsFlatModule module_with_sum → ⊥
+unfolding specs_of
+no-spec h = h.readable.specified.0

@@ -12,10 +12,10 @@ use Rattle.erl_tree.specs.declared.token.Token.TheVariants as T
 use Rattle.erl_tree.specs.declared.type_expr.TypeKind.{TypeKind}
 use Rattle.erl_tree.specs.declared.form.SpecKind.{SpecKind}
 use Rattle.erl_tree.specs.declared.form.SpecClauseKind.{SpecClauseKind}
-use Rattle.erl_tree.specs.Grammar.{node, AreParamMarks}
-use Rattle.erl_tree.specs.Grammar as F
-use Rattle.erl_tree.specs.Spelling.{at, atom, mark, params_tokens}
-use Rattle.erl_tree.specs.Spelling as FS
+use Rattle.flat_modules.specs.Grammar.{node, AreParamMarks}
+use Rattle.flat_modules.specs.Grammar as F
+use Rattle.flat_modules.specs.Spelling.{at, atom, mark, params_tokens}
+use Rattle.flat_modules.specs.Spelling as FS
 use Rattle.erl_grammar.specs.Pieces.{inner, fill, commas}
 use Rattle.erl_grammar.specs.Pieces as P
 use Rattle.erl_grammar.specs.Grammar.{AreSeparators, IsArity}

@@ -11,11 +11,11 @@ use Rattle.erl_tree.specs.declared.pattern.LiteralKind.TheVariants as L
 use Rattle.erl_tree.specs.declared.type_expr.TypeKind.{TypeKind}
 use Rattle.erl_tree.specs.declared.type_expr.TypeKind.TheVariants as V
 use Rattle.erl_tree.specs.declared.type_expr.TypeKind.TheOpen as Y
-use Rattle.erl_tree.specs.Grammar.{node}
-use Rattle.erl_tree.specs.Grammar as F
-use Rattle.erl_tree.specs.Spelling.{mark}
-use Rattle.erl_tree.specs.Spelling as FS
-use Rattle.erl_tree.proofs.TreeLaws as FL
+use Rattle.flat_modules.specs.Grammar.{node}
+use Rattle.flat_modules.specs.Grammar as F
+use Rattle.flat_modules.specs.Spelling.{mark}
+use Rattle.flat_modules.specs.Spelling as FS
+use Rattle.flat_modules.proofs.TreeLaws as FL
 use Rattle.erl_grammar.specs.Grammar.{AreSeparators}
 use Rattle.erl_grammar.specs.Spelling as GS
 use Rattle.erl_grammar.specs.TypeGrammar as G

@@ -9,8 +9,8 @@ use Rattle.erl_tree.specs.declared.expr.BinaryOp.TheVariants.{Add, Sub, Mul}
 use Rattle.erl_tree.specs.declared.expr.ExprKind.{ExprKind}
 use Rattle.erl_tree.specs.declared.expr.ExprKind.TheVariants as X
 use Rattle.erl_tree.specs.declared.expr.ExprKind.TheOpen as E
-use Rattle.erl_tree.specs.Grammar.{node}
-use Rattle.erl_tree.specs.Grammar as F
+use Rattle.flat_modules.specs.Grammar.{node}
+use Rattle.flat_modules.specs.Grammar as F
 use Rattle.erl_grammar.specs.declared.head.Head.{Head}
 use Rattle.erl_grammar.specs.Operators.{priority, left_priority, right_priority}
 use Rattle.erl_grammar.specs.Grammar as G

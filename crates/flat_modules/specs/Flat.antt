@@ -46,7 +46,7 @@ is_flat_end (L.Int n) = true
 is_flat_end (L.NegInt n) = true
 is_flat_end _ = false
 
--- one level of a type: `a`, `1`, `-1`, `(T)`, `T | U`, `1..2`, `integer()`
+-- one level of a type: `a`, `1`, `-1`, `(T)`, `T | U`, `1..2`, a name without arguments as `integer()`
 abbrev pub flat_type_layer : Y.TypeKind-F Bool (Unit {0}) → Bool
 flat_type_layer (Y.Atom a) = true
 flat_type_layer (Y.Int n) = true

@@ -1,3 +1,6 @@
+pub mod Spelling
+pub mod Grammar
 pub mod Flat
 pub mod Calls
+pub mod FlatModules
 pub mod SmallModules

@@ -1,7 +1,7 @@
 -- Small modules, for examples. The tokens of each lie in the first line, at the columns of its text.
 use Rattle.std.specs.Prelude.{ℕ, pos, List, [], ◌∷◌, None, codes}
 use Rattle.erl_tree.specs.SmallText.{place}
-use Rattle.erl_tree.specs.SmallTrees.{int_at, atom_at}
+use Rattle.erl_runs.specs.SmallTrees.{int_at, atom_at}
 use Rattle.erl_tree.specs.declared.token.Node.{Node}
 use Rattle.erl_tree.specs.declared.expr.BinaryOp.TheVariants.{Add}
 use Rattle.erl_tree.specs.declared.expr.ExprKind.{ExprKind}

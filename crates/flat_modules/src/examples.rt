@@ -1,9 +1,11 @@
 //! Small modules, and what is said of them. Each example is the contract of a function that does nothing.
 
 ghost use Rattle.std.specs.Prelude.{◌≡◌, true, false};
-ghost use Rattle.erl_tree.specs.Grammar.{IsWellFormed};
+ghost use Rattle.erl_tree.specs.SmallText.{small_module};
 ghost use Rattle.erl_grammar.specs.FormGrammar.{IsModule};
 ghost use Rattle.flat_modules.specs.Flat.{is_flat};
+ghost use Rattle.flat_modules.specs.FlatModules.{IsFlatModule};
+ghost use Rattle.flat_modules.specs.Grammar.{IsWellFormed};
 ghost use Rattle.flat_modules.specs.SmallModules.{module_with_sum, module_with_tuple, module_with_call};
 
 /// `-module(m). f()->1+2.` is flat.
@@ -26,4 +28,11 @@ pub fn a_call_outside_of_the_profile()
     ensures flat_grammar { IsWellFormed module_with_call }
     ensures grammar { IsModule module_with_call → ⊥ }
     ensures test { is_flat module_with_call ≡ true }
+{}
+
+/// `-module(a).` is a flat module in which names are used rightly. `-module(m). f()->1+2.` is none, since
+/// f has no spec.
+pub fn each_function_has_a_spec()
+    ensures no_functions { IsFlatModule small_module }
+    ensures no_spec { IsFlatModule module_with_sum → ⊥ }
 {}

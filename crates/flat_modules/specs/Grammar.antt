@@ -1,8 +1,6 @@
--- Which trees are well formed: the grammar of the Erlang Reference Manual ("Expressions", "Functions", "Types and Function Specifications"), in its part on flat modules. Each node has the parts and the number of marks of a production of the grammar and the place of its first token, and each operand binds as tightly as its place asks.
+-- The grammar of flat modules, a part of the grammar of all modules (Erlang Reference Manual, "Expressions", "Functions", "Types and Function Specifications"). Each node has the parts and the number of marks of a production of the grammar and the place of its first token, and each operand binds as tightly as its place asks.
 use Rattle.std.specs.Prelude.{◌≡◌, ℕ, ℤ, zero, suc, List, [], ◌∷◌, ◌≤◌, length, None}
 use Rattle.erl_tree.specs.Lists.{Every}
-use Rattle.erl_tree.specs.Lexis.{SpellsTokens}
-use Rattle.erl_tree.specs.Spelling.{tokens_of}
 use Rattle.type_terms.specs.Keys.{Name}
 use Rattle.erl_tree.specs.declared.token.Place.{Place}
 use Rattle.erl_tree.specs.declared.token.Node.{Node}
@@ -181,10 +179,3 @@ is_module_layer forms _ = ⊥
 -- a well-formed module
 unfoldable pub IsWellFormed : Module → Type 0
 IsWellFormed m = is_module_layer m.forms m.marks
-
--- ---- bytes and modules
-
--- the bytes spell the tokens of the module, and it is well formed
-pub record SpellsModule (bytes : List ℕ) (m : Module) : Type 0 where
-  pub tokens : SpellsTokens bytes (tokens_of m)
-  pub well_formed : IsWellFormed m

@@ -1,5 +1,5 @@
--- The equations of the tokens and the depths of types and expressions: one for each form of a flat module.
-use Rattle.std.proofs.Common.{◌≡◌, refl, ap, sym, ◌∙◌, ℕ, ℤ, suc, List, [], ◌∷◌, ◌++◌, map, max}
+-- The equations of the tokens of types and expressions: one for each form of a flat module.
+use Rattle.std.proofs.Common.{◌≡◌, refl, ap, sym, ◌∙◌, ℤ, List, [], ◌∷◌, ◌++◌, map}
 use Rattle.std.specs.Prelude.{None, codes}
 use Rattle.type_terms.specs.Keys.{Name}
 use Rattle.erl_tree.specs.declared.token.Place.{Place}
@@ -14,8 +14,7 @@ use Rattle.erl_tree.specs.declared.expr.ExprKind.{ExprKind, fold-ExprKind, fold-
 use Rattle.erl_tree.specs.declared.expr.ExprKind.TheVariants as X
 use Rattle.erl_tree.specs.declared.expr.ExprKind.TheOpen as E
 use Rattle.erl_tree.specs.declared.expr.ExprKind.TheShapes as S
-use Rattle.erl_tree.specs.Spelling.{at, atom, mark, Shown, shown, literal_tokens, type_layer, type_shown, type_tokens, arguments_tokens, operator_text, operation_tokens, expr_layer, expr_shown, expr_tokens}
-use Rattle.erl_tree.specs.Limits.{type_depth_layer, type_kind_depth, type_depth, deepest, expr_depth_layer, expr_kind_depth, expr_depth}
+use Rattle.flat_modules.specs.Spelling.{at, atom, mark, Shown, shown, literal_tokens, type_layer, type_shown, type_tokens, arguments_tokens, operator_text, operation_tokens, expr_layer, expr_shown, expr_tokens}
 
 -- ---- the tokens of types
 
@@ -49,38 +48,6 @@ type_shown-Use name p o c = ap (λ k. type_shown k (p ∷ o ∷ c ∷ [])) (sym 
 
 pub ruleset type_tokens_laws = (type_shown-Atom, type_shown-Int, type_shown-NegInt, type_shown-Paren, type_shown-Or, type_shown-Range, type_shown-Use)
 
--- ---- the depth of types
-
-pub type_kind_depth-Atom : (a : Name) → type_kind_depth (Y.Atom a) ≡ 1
-unfolding type_kind_depth
-type_kind_depth-Atom a = ap (λ k. type_kind_depth k) (sym (Y.rolls-Atom a)) ∙ fold-roll-TypeKind ℕ (Unit {0}) type_depth_layer (λ part. tt) (L.Atom a)
-
-pub type_kind_depth-Int : (n : ℤ) → type_kind_depth (Y.Int n) ≡ 1
-unfolding type_kind_depth
-type_kind_depth-Int n = ap (λ k. type_kind_depth k) (sym (Y.rolls-Int n)) ∙ fold-roll-TypeKind ℕ (Unit {0}) type_depth_layer (λ part. tt) (L.Int n)
-
-pub type_kind_depth-NegInt : (n : ℤ) → type_kind_depth (Y.NegInt n) ≡ 1
-unfolding type_kind_depth
-type_kind_depth-NegInt n = ap (λ k. type_kind_depth k) (sym (Y.rolls-NegInt n)) ∙ fold-roll-TypeKind ℕ (Unit {0}) type_depth_layer (λ part. tt) (L.NegInt n)
-
-pub type_kind_depth-Paren : (t : Node TypeKind) → type_kind_depth (Y.Paren t) ≡ suc (type_depth t)
-unfolding type_kind_depth
-type_kind_depth-Paren t = ap (λ k. type_kind_depth k) (sym (Y.rolls-Paren t)) ∙ fold-roll-TypeKind ℕ (Unit {0}) type_depth_layer (λ part. tt) (L.Paren t)
-
-pub type_kind_depth-Or : (t u : Node TypeKind) → type_kind_depth (Y.Or t u) ≡ suc (max (type_depth t) (type_depth u))
-unfolding type_kind_depth
-type_kind_depth-Or t u = ap (λ k. type_kind_depth k) (sym (Y.rolls-Or t u)) ∙ fold-roll-TypeKind ℕ (Unit {0}) type_depth_layer (λ part. tt) (L.Or t u)
-
-pub type_kind_depth-Range : (low high : Node LiteralKind) → type_kind_depth (Y.Range low high) ≡ 1
-unfolding type_kind_depth
-type_kind_depth-Range low high = ap (λ k. type_kind_depth k) (sym (Y.rolls-Range low high)) ∙ fold-roll-TypeKind ℕ (Unit {0}) type_depth_layer (λ part. tt) (L.Range low high)
-
-pub type_kind_depth-Use : (name : Name) → type_kind_depth (Y.Use None name []) ≡ 1
-unfolding type_kind_depth
-type_kind_depth-Use name = ap (λ k. type_kind_depth k) (sym (Y.rolls-Use None name [])) ∙ fold-roll-TypeKind ℕ (Unit {0}) type_depth_layer (λ part. tt) (L.Use None name [])
-
-pub ruleset type_depth_laws = (type_kind_depth-Atom, type_kind_depth-Int, type_kind_depth-NegInt, type_kind_depth-Paren, type_kind_depth-Or, type_kind_depth-Range, type_kind_depth-Use)
-
 -- ---- the tokens of expressions
 
 shown_args : (es : List (Node ExprKind)) → map shown (S.former-ExprKind-Tuple-0.map ExprKind Shown (fold-ExprKind Shown (Unit {0}) (Unit {0}) (Unit {0}) (Unit {0}) (Unit {0}) expr_layer (λ i. tt) (λ q. tt) (λ a. tt) (λ c. tt) (λ c. tt)) es) ≡ map expr_tokens es
@@ -113,41 +80,3 @@ unfolding expr_shown
 expr_shown-Call name args n o ms = ap (λ k. expr_shown k (n ∷ o ∷ ms)) (sym (X.rolls-Call None name args)) ∙ (ap (λ (f : Shown). f (n ∷ o ∷ ms)) (fold-roll-ExprKind Shown (Unit {0}) (Unit {0}) (Unit {0}) (Unit {0}) (Unit {0}) expr_layer (λ i. tt) (λ q. tt) (λ a. tt) (λ c. tt) (λ c. tt) (E.Call None name args)) ∙ ap (λ ts. atom name n ∷ mark (codes "(") o ∷ arguments_tokens ts ms) (shown_args args))
 
 pub ruleset expr_tokens_laws = (expr_shown-Int, expr_shown-Atom, expr_shown-Var, expr_shown-Paren, expr_shown-Binary, expr_shown-Call)
-
--- ---- the depth of expressions
-
--- the greatest depth of some expressions
-abbrev pub expr_depths : List (Node ExprKind) → ℕ
-expr_depths [] = 0
-expr_depths (e ∷ es) = max (expr_depth e) (expr_depths es)
-
-deepest_arg : (es : List (Node ExprKind)) → deepest (S.former-ExprKind-Tuple-0.map ExprKind ℕ (fold-ExprKind ℕ (Unit {0}) (Unit {0}) (Unit {0}) (Unit {0}) (Unit {0}) expr_depth_layer (λ i. tt) (λ q. tt) (λ a. tt) (λ c. tt) (λ c. tt)) es) ≡ expr_depths es
-unfolding expr_kind_depth
-deepest_arg [] = refl
-deepest_arg (e ∷ es) = ap (λ n. max (expr_depth e) n) (deepest_arg es)
-
-pub expr_kind_depth-Int : (n : ℤ) → expr_kind_depth (X.Int n) ≡ 1
-unfolding expr_kind_depth
-expr_kind_depth-Int n = ap (λ k. expr_kind_depth k) (sym (X.rolls-Int n)) ∙ fold-roll-ExprKind ℕ (Unit {0}) (Unit {0}) (Unit {0}) (Unit {0}) (Unit {0}) expr_depth_layer (λ i. tt) (λ q. tt) (λ a. tt) (λ c. tt) (λ c. tt) (E.Int n)
-
-pub expr_kind_depth-Atom : (a : Name) → expr_kind_depth (X.Atom a) ≡ 1
-unfolding expr_kind_depth
-expr_kind_depth-Atom a = ap (λ k. expr_kind_depth k) (sym (X.rolls-Atom a)) ∙ fold-roll-ExprKind ℕ (Unit {0}) (Unit {0}) (Unit {0}) (Unit {0}) (Unit {0}) expr_depth_layer (λ i. tt) (λ q. tt) (λ a. tt) (λ c. tt) (λ c. tt) (E.Atom a)
-
-pub expr_kind_depth-Var : (x : Name) → expr_kind_depth (X.Var x) ≡ 1
-unfolding expr_kind_depth
-expr_kind_depth-Var x = ap (λ k. expr_kind_depth k) (sym (X.rolls-Var x)) ∙ fold-roll-ExprKind ℕ (Unit {0}) (Unit {0}) (Unit {0}) (Unit {0}) (Unit {0}) expr_depth_layer (λ i. tt) (λ q. tt) (λ a. tt) (λ c. tt) (λ c. tt) (E.Var x)
-
-pub expr_kind_depth-Paren : (e : Node ExprKind) → expr_kind_depth (X.Paren e) ≡ suc (expr_depth e)
-unfolding expr_kind_depth
-expr_kind_depth-Paren e = ap (λ k. expr_kind_depth k) (sym (X.rolls-Paren e)) ∙ fold-roll-ExprKind ℕ (Unit {0}) (Unit {0}) (Unit {0}) (Unit {0}) (Unit {0}) expr_depth_layer (λ i. tt) (λ q. tt) (λ a. tt) (λ c. tt) (λ c. tt) (E.Paren e)
-
-pub expr_kind_depth-Binary : (op : BinaryOp) (a b : Node ExprKind) → expr_kind_depth (X.Binary op a b) ≡ suc (max (expr_depth a) (expr_depth b))
-unfolding expr_kind_depth
-expr_kind_depth-Binary op a b = ap (λ k. expr_kind_depth k) (sym (X.rolls-Binary op a b)) ∙ fold-roll-ExprKind ℕ (Unit {0}) (Unit {0}) (Unit {0}) (Unit {0}) (Unit {0}) expr_depth_layer (λ i. tt) (λ q. tt) (λ a. tt) (λ c. tt) (λ c. tt) (E.Binary op a b)
-
-pub expr_kind_depth-Call : (name : Name) (args : List (Node ExprKind)) → expr_kind_depth (X.Call None name args) ≡ suc (expr_depths args)
-unfolding expr_kind_depth
-expr_kind_depth-Call name args = ap (λ k. expr_kind_depth k) (sym (X.rolls-Call None name args)) ∙ (fold-roll-ExprKind ℕ (Unit {0}) (Unit {0}) (Unit {0}) (Unit {0}) (Unit {0}) expr_depth_layer (λ i. tt) (λ q. tt) (λ a. tt) (λ c. tt) (λ c. tt) (E.Call None name args) ∙ ap (λ n. suc n) (deepest_arg args))
-
-pub ruleset expr_depth_laws = (expr_kind_depth-Int, expr_kind_depth-Atom, expr_kind_depth-Var, expr_kind_depth-Paren, expr_kind_depth-Binary, expr_kind_depth-Call)

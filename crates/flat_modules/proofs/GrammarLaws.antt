@@ -18,7 +18,7 @@ use Rattle.erl_tree.specs.declared.expr.AssocKind.{AssocKind}
 use Rattle.erl_tree.specs.declared.expr.CatchKind.{CatchKind}
 use Rattle.erl_tree.specs.declared.expr.ExprKind.TheVariants as EV
 use Rattle.erl_tree.specs.declared.expr.ExprKind.TheOpen as E
-use Rattle.erl_tree.specs.Grammar.{IsEnd, IsType, one_type, union, IsSimpleType, atom_type, integer_type, negative_type, range_type, use_type, paren_type, IsAdditive, IsExpr, one_product, sum, IsProduct, one_operand, product, IsOperand, integer, atom, variable, parens, call, AreArguments, no_arguments, last_argument, more_arguments}
+use Rattle.flat_modules.specs.Grammar.{IsEnd, IsType, one_type, union, IsSimpleType, atom_type, integer_type, negative_type, range_type, use_type, paren_type, IsAdditive, IsExpr, one_product, sum, IsProduct, one_operand, product, IsOperand, integer, atom, variable, parens, call, AreArguments, no_arguments, last_argument, more_arguments}
 
 -- ---- expressions
 

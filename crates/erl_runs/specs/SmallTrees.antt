@@ -1,15 +1,13 @@
 -- Small trees, for examples.
-use Rattle.std.specs.Prelude.{ℕ, ℤ, pos, List, [], ◌∷◌, None, codes}
+use Rattle.std.specs.Prelude.{ℕ, ℤ, pos, [], ◌∷◌, None, codes}
 use Rattle.type_terms.specs.Keys.{Name}
-use Rattle.erl_tree.specs.declared.token.Placed.{Placed}
 use Rattle.erl_tree.specs.declared.token.Node.{Node}
-use Rattle.erl_tree.specs.declared.token.Token.TheVariants as T
 use Rattle.erl_tree.specs.declared.pattern.PatternKind.TheVariants as P
 use Rattle.erl_tree.specs.declared.pattern.LiteralKind.{LiteralKind}
 use Rattle.erl_tree.specs.declared.pattern.LiteralKind.TheVariants as L
 use Rattle.erl_tree.specs.declared.type_expr.TypeKind.{TypeKind}
 use Rattle.erl_tree.specs.declared.type_expr.TypeKind.TheVariants as Y
-use Rattle.erl_tree.specs.declared.expr.BinaryOp.TheVariants.{Add, Sub}
+use Rattle.erl_tree.specs.declared.expr.BinaryOp.TheVariants.{Add}
 use Rattle.erl_tree.specs.declared.expr.ExprKind.{ExprKind}
 use Rattle.erl_tree.specs.declared.expr.ExprKind.TheVariants as X
 use Rattle.erl_tree.specs.declared.expr.ItemKind.{ItemKind}
@@ -20,8 +18,7 @@ use Rattle.erl_tree.specs.declared.expr.AssocKind.{AssocKind}
 use Rattle.erl_tree.specs.declared.expr.CatchKind.{CatchKind}
 use Rattle.erl_tree.specs.declared.expr.ExprKind.TheOpen as E
 use Rattle.erl_tree.specs.declared.form.Function.{Function}
-use Rattle.erl_tree.specs.Spelling.{at, mark}
-use Rattle.erl_tree.specs.Grammar.{node}
+use Rattle.erl_grammar.specs.Grammar.{node}
 use Rattle.erl_tree.specs.SmallText.{place}
 
 -- ---- expressions
@@ -33,22 +30,6 @@ int_at n column = node (place column) (place column ∷ []) (X.Int n)
 -- an atom at a column
 abbrev pub atom_at : Name → ℕ → Node ExprKind
 atom_at a column = node (place column) (place column ∷ []) (X.Atom a)
-
--- `1-2-3`, grouped to the left
-abbrev pub grouped_left : Node ExprKind
-grouped_left = node (place 1) (place 4 ∷ []) (X.Binary Sub (node (place 1) (place 2 ∷ []) (X.Binary Sub (int_at (pos 1) 1) (int_at (pos 2) 3))) (int_at (pos 3) 5))
-
--- the same, grouped to the right
-abbrev pub grouped_right : Node ExprKind
-grouped_right = node (place 1) (place 2 ∷ []) (X.Binary Sub (int_at (pos 1) 1) (node (place 3) (place 4 ∷ []) (X.Binary Sub (int_at (pos 2) 3) (int_at (pos 3) 5))))
-
--- the tokens of `1-2-3`
-abbrev pub difference_tokens : List Placed
-difference_tokens = at (T.Int (pos 1)) (place 1) ∷ mark (codes "-") (place 2) ∷ at (T.Int (pos 2)) (place 3) ∷ mark (codes "-") (place 4) ∷ at (T.Int (pos 3)) (place 5) ∷ []
-
--- `((1))`
-abbrev pub one_in_parens : Node ExprKind
-one_in_parens = node (place 1) (place 1 ∷ place 5 ∷ []) (X.Paren (node (place 2) (place 2 ∷ place 4 ∷ []) (X.Paren (int_at (pos 1) 3))))
 
 -- `1+2`
 abbrev pub one_and_two : Node ExprKind
