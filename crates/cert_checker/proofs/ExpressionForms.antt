@@ -15,8 +15,8 @@ use Rattle.erl_tree.specs.declared.expr.ExprKind.TheVariants as X
 use Rattle.erl_tree.specs.declared.expr.ExprKind.TheOpen as E
 use Rattle.erl_tree.specs.declared.expr.ExprKind.TheShapes as S
 use Rattle.erl_tree.specs.Lists.{Every}
-use Rattle.erl_tree.specs.Grammar.{IsExpr}
-use Rattle.erl_tree.proofs.GrammarLaws.{IsArithmetic, flat_layer, expr-layer, expr-layer-at}
+use Rattle.flat_modules.specs.Grammar.{IsExpr}
+use Rattle.flat_modules.proofs.GrammarLaws.{IsArithmetic, flat_layer, expr-layer, expr-layer-at}
 use Rattle.cert_checker.specs.FlatTypes.{is_limited, all_limited, limited_expr_layer, is_limited_expr, IsFlatExpr}
 
 -- ---- the limits of expressions

@@ -13,7 +13,7 @@ use Rattle.erl_tree.specs.declared.token.Node.{Node}
 use Rattle.erl_tree.specs.declared.pattern.PatternKind.{PatternKind, out-PatternKind}
 use Rattle.erl_tree.specs.declared.pattern.PatternKind.TheOpen as P
 use Rattle.erl_tree.specs.Lists.{Every, Among, AreDistinct}
-use Rattle.erl_tree.specs.Grammar.{IsPattern, is_pattern_layer}
+use Rattle.flat_modules.specs.Grammar.{IsPattern, is_pattern_layer}
 use Rattle.erl_runs.specs.Readable.{is_wildcard, bound_layer, bound_by}
 use Rattle.erl_runs.specs.Value.{Value, Environment}
 use Rattle.erl_runs.specs.Matching.{variable_value, with_variable, bound_to, match_layer, match_next, match_patterns}

@@ -14,9 +14,9 @@ use Rattle.erl_tree.specs.declared.expr.BinaryOp.TheVariants.{Add, Sub, Mul}
 use Rattle.erl_tree.specs.declared.expr.ExprKind.{ExprKind}
 use Rattle.erl_tree.specs.Lists.{Every}
 use Rattle.erl_tree.specs.Limits.{integer_limit, IsInLimit}
-use Rattle.erl_tree.specs.Grammar.{is_end_layer, IsType, one_type, union, IsSimpleType, atom_type, integer_type, negative_type, range_type, use_type, paren_type, IsAdditive, IsExpr, one_product, sum, IsProduct, one_operand, product, IsOperand, integer, atom, variable, parens, call as call_operand, AreArguments, no_arguments, last_argument, more_arguments, AreParamMarks}
-use Rattle.erl_tree.specs.Spelling.{mark, literal_tokens, literal_layer, type_tokens, expr_tokens, operator_text, operation_tokens, params_tokens, arguments_tokens}
-use Rattle.erl_tree.proofs.TreeLaws.{type_shown-Int, type_shown-NegInt, type_shown-Paren, type_shown-Or, type_shown-Range, expr_shown-Int, expr_shown-Paren, expr_shown-Binary, expr_shown-Call}
+use Rattle.flat_modules.specs.Grammar.{is_end_layer, IsType, one_type, union, IsSimpleType, atom_type, integer_type, negative_type, range_type, use_type, paren_type, IsAdditive, IsExpr, one_product, sum, IsProduct, one_operand, product, IsOperand, integer, atom, variable, parens, call as call_operand, AreArguments, no_arguments, last_argument, more_arguments, AreParamMarks}
+use Rattle.flat_modules.specs.Spelling.{mark, literal_tokens, literal_layer, type_tokens, expr_tokens, operator_text, operation_tokens, params_tokens, arguments_tokens}
+use Rattle.flat_modules.proofs.TreeLaws.{type_shown-Int, type_shown-NegInt, type_shown-Paren, type_shown-Or, type_shown-Range, expr_shown-Int, expr_shown-Paren, expr_shown-Binary, expr_shown-Call}
 use Rattle.cert_checker.specs.FlatTypes.{is_limited, is_limited_end, is_limited_type, is_limited_expr}
 use Rattle.cert_checker.proofs.Lists.{every-split}
 use Rattle.cert_checker.proofs.FlatForms.{limited-Int as type-Int, limited-NegInt as type-NegInt, limited-Paren as type-Paren, limited-Or as type-Or, limited-Range as type-Range, limited-Atom as type-Atom, limited-Use as type-Use}

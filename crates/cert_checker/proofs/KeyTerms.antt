@@ -19,7 +19,7 @@ use Rattle.erl_tree.specs.declared.form.SpecKind.{SpecKind}
 use Rattle.erl_tree.specs.declared.form.SpecClauseKind.{SpecClauseKind}
 use Rattle.erl_tree.specs.declared.form.Module.{Module}
 use Rattle.erl_tree.specs.Lists.{Every}
-use Rattle.erl_tree.specs.Grammar.{IsType, one_type, union, IsSimpleType, atom_type, integer_type, negative_type, range_type, use_type, paren_type, IsSpec, IsSpecClause, is_spec_clause_layer, IsWellFormed}
+use Rattle.flat_modules.specs.Grammar.{IsType, one_type, union, IsSimpleType, atom_type, integer_type, negative_type, range_type, use_type, paren_type, IsSpec, IsSpecClause, is_spec_clause_layer, IsWellFormed}
 use Rattle.erl_runs.specs.Specs.{and_then, end_of, range, built_in_type, type_term, all_present, clause_arrow, function_spec, specs_in, read_specs, specs_of}
 use Rattle.erl_runs.specs.Value.{Value, integer, atom, nil, cons, tuple, map_of, named_fun, closure}
 use Rattle.erl_runs.specs.Membership.{Program, InTerm, values_in, arrows_if, arrows_of}

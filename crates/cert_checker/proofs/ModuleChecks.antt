@@ -16,7 +16,7 @@ use Rattle.erl_tree.specs.Lists.{Every, Among}
 use Rattle.erl_tree.specs.Functions.{functions_of, clauses_arity, of_function}
 use Rattle.erl_runs.specs.Specs.{specs_of}
 use Rattle.erl_runs.specs.Membership.{arrows_of}
-use Rattle.erl_runs.specs.Readable.{IsFlatModule}
+use Rattle.flat_modules.specs.FlatModules.{IsFlatModule}
 use Rattle.function_table.specs.Table.{ids}
 use Rattle.cert_checker.specs.declared.refusal.FirstRefusal.{FirstRefusal}
 use Rattle.cert_checker.specs.declared.spec_table.FunctionTypes.{FunctionTypes}

@@ -6,7 +6,6 @@ use Rattle.type_terms.specs.declared.spec.Arrow.{Arrow}
 use Rattle.type_terms.specs.declared.spec.FunSpec.{FunSpec}
 use Rattle.type_terms.specs.Keys.{Name}
 use Rattle.erl_tree.specs.declared.token.Place.{Place}
-use Rattle.erl_tree.specs.declared.token.Placed.{Placed}
 use Rattle.erl_tree.specs.declared.token.Node.{Node}
 use Rattle.erl_tree.specs.declared.type_expr.TypeKind.{TypeKind}
 use Rattle.erl_tree.specs.declared.expr.ExprKind.{ExprKind}
@@ -23,19 +22,16 @@ use Rattle.erl_tree.specs.declared.form.TreeForm.TheVariants as F
 use Rattle.erl_tree.specs.declared.form.Module.{Module}
 use Rattle.erl_tree.specs.Lists.{Every, Among}
 use Rattle.erl_tree.specs.Functions.{functions_in, functions_of}
-use Rattle.erl_tree.specs.Limits.{HasIntegersInLimit}
 use Rattle.erl_runs.specs.Specs.{and_then, all_present, type_term, clause_arrow, function_spec, specs_in, specs_of}
-use Rattle.erl_tree.specs.Spelling.{tokens_of, module_layer, forms_tokens, form_tokens, spec_layer, spec_clause_layer, spec_clause_tokens, function_tokens, clauses_tokens, clause_layer, clause_tokens, body_tokens, item_layer, item_tokens, pattern_tokens, type_tokens, expr_tokens}
-use Rattle.erl_tree.specs.Grammar.{IsType, IsExpr, IsForm, IsFunction, IsClause, IsItem, IsBody, IsWellFormed, AreParamMarks, is_module_layer, is_spec_layer, is_spec_clause_layer, is_function_layer, is_clause_layer, is_item_layer}
-use Rattle.erl_runs.specs.Readable.{IsFlatModule}
+use Rattle.flat_modules.specs.Spelling.{tokens_of, module_layer, forms_tokens, form_tokens, spec_layer, spec_clause_layer, spec_clause_tokens, function_tokens, clauses_tokens, clause_layer, clause_tokens, body_tokens, item_layer, item_tokens, pattern_tokens, type_tokens, expr_tokens}
+use Rattle.flat_modules.specs.Grammar.{IsType, IsExpr, IsForm, IsFunction, IsClause, IsItem, IsBody, IsWellFormed, AreParamMarks, is_module_layer, is_spec_layer, is_spec_clause_layer, is_function_layer, is_clause_layer, is_item_layer}
+use Rattle.flat_modules.specs.FlatModules.{IsFlatModule}
+use Rattle.flat_modules.proofs.FlatLaws.{AreInLimit, flat-formed, flat-limits}
 use Rattle.cert_checker.specs.FlatTypes.{IsFlatType, IsFlatExpr}
 use Rattle.cert_checker.specs.SpecTables.{IsFlatForm, IsFlatSpec, IsFlatSpecClause}
 use Rattle.cert_checker.proofs.Lists.{every-split, every-at, then-some}
 use Rattle.cert_checker.proofs.Parts.{well_formed-forms, forms-functions, arrow-spec}
 use Rattle.cert_checker.proofs.IntegerLimits.{InLimit, type-limited, expr-limited, params-split}
-
-abbrev AreInLimit : List Placed → Type 0
-AreInLimit ts = Every InLimit ts
 
 -- ---- forms
 
@@ -43,7 +39,7 @@ form-limits : (forms : List TreeForm) → AreInLimit (forms_tokens forms) → Ev
 form-limits [] h = tt
 form-limits (f ∷ forms) h = let s : AreInLimit (form_tokens f) × AreInLimit (forms_tokens forms) = every-split InLimit (form_tokens f) (forms_tokens forms) h in (s.0, form-limits forms s.1)
 
-module-limits : (m : Module) → IsWellFormed m → HasIntegersInLimit m → Every (λ f. AreInLimit (form_tokens f)) m.forms
+module-limits : (m : Module) → IsWellFormed m → AreInLimit (tokens_of m) → Every (λ f. AreInLimit (form_tokens f)) m.forms
 unfolding IsWellFormed tokens_of
 module-limits m w h = go m.marks w h
   where
@@ -104,7 +100,7 @@ forms-flat (_ ∷ forms) fs w l e = absurd w.0
 
 -- the types of a flat module's specs
 pub module-flat : (m : Module) → IsFlatModule m → Every IsFlatForm m.forms
-module-flat m flat = forms-flat m.forms (specs_of m) (well_formed-forms m flat.well_formed) (module-limits m flat.well_formed flat.in_limit) flat.readable.specs_read
+module-flat m flat = forms-flat m.forms (specs_of m) (well_formed-forms m (flat-formed m flat)) (module-limits m (flat-formed m flat) (flat-limits m flat)) flat.readable.specs_read
 
 -- ---- bodies
 
@@ -152,8 +148,8 @@ clause-item c place (n ∷ o ∷ ms) i w q = go c.body q w.5
 -- the one expression of a function's body
 pub body-flat : (m : Module) (f : Function) (c : Node ClauseKind) (i : Node ItemKind) (e : Node ExprKind) → IsFlatModule m → Among f (functions_of m) → f.clauses ≡ c ∷ [] → IsClause c → (out-ClauseKind c.kind).body ≡ i ∷ [] → out-ItemKind i.kind ≡ E.Value e → IsExpr e → IsFlatExpr e
 body-flat m f c i e flat a q w p v x =
-    let forms : Every IsForm m.forms = well_formed-forms m flat.well_formed in
-    let t : AreInLimit (function_tokens f) = function-limits m.forms f forms (module-limits m flat.well_formed flat.in_limit) a in
+    let forms : Every IsForm m.forms = well_formed-forms m (flat-formed m flat) in
+    let t : AreInLimit (function_tokens f) = function-limits m.forms f forms (module-limits m (flat-formed m flat) (flat-limits m flat)) a in
     let y : AreInLimit (clause_tokens f.name c) = clauses-limits f.name f.clauses f.place f.marks c (every-at IsFunction f (functions_of m) (forms-functions m.forms forms) a) q t in
     let b : AreInLimit (body_tokens (out-ClauseKind c.kind).body) = clause-limits f.name (out-ClauseKind c.kind) c.place c.marks w y in
     let z : AreInLimit (item_tokens i) = subst (λ u. AreInLimit (body_tokens u)) p b in

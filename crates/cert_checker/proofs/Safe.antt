@@ -27,9 +27,11 @@ use Rattle.erl_tree.specs.declared.form.Module.{Module}
 use Rattle.erl_tree.specs.Lists.{Every, Among}
 use Rattle.erl_tree.specs.Functions.{of_function, function_id, functions_of, function_ids, clauses_arity, find_function, FunctionId}
 use Rattle.erl_runs.specs.Specs.{and_then, one_integer, specs_of, specs_in, spec_id}
-use Rattle.erl_tree.specs.Grammar.{IsExpr, one_product, sum, IsProduct, one_operand, product, IsOperand, AreArguments, no_arguments, last_argument, more_arguments, IsAdditive, IsPattern, is_pattern_layer, IsBody}
-use Rattle.erl_tree.specs.Grammar as G
-use Rattle.erl_runs.specs.Readable.{is_wildcard, bound_layer, bound_by, HasDistinctHead, IsFlatModule}
+use Rattle.flat_modules.specs.Grammar.{IsExpr, one_product, sum, IsProduct, one_operand, product, IsOperand, AreArguments, no_arguments, last_argument, more_arguments, IsAdditive, IsPattern, is_pattern_layer, IsBody}
+use Rattle.flat_modules.specs.Grammar as G
+use Rattle.erl_runs.specs.Readable.{is_wildcard, bound_layer, bound_by}
+use Rattle.flat_modules.specs.FlatModules.{HasDistinctHead, IsFlatModule}
+use Rattle.flat_modules.proofs.FlatLaws.{flat-formed}
 use Rattle.erl_runs.specs.Value.{Value, Environment, no_bindings, named_fun, Run, Outcome, came, raised, wrong, going, integer, atom, Call, nil, cons, tuple, map_of, closure}
 use Rattle.erl_runs.specs.Matching.{variable_value, match_patterns}
 use Rattle.erl_runs.specs.Membership.{Program, InTerm, values_in, arrows_if, arrows_of, ends_well, calls_within}
@@ -350,7 +352,7 @@ module _ (m : Module) (flat : IsFlatModule m) (hold : Every Holds (owed_of alway
   IsCalled apply = (name : Name) (arrow : Arrow) (vs : List Value) (steps : ℕ) → arrows_of (specs_of m) name (length vs) ≡ arrow ∷ [] → AreHeld whole vs arrow.params → GoodRun whole Value (λ v. Held whole v arrow.result) (apply (named_fun name (length vs)) vs steps)
 
   keys-of : (name : Name) (arity : ℕ) (arrow : Arrow) → Contains (arrows_of (specs_of m) name arity) arrow → IsArrowOfKeys arrow
-  keys-of = module-keys m flat.well_formed flat.readable.specs_read
+  keys-of = module-keys m (flat-formed m flat) flat.readable.specs_read
 
   all-held : (vs : List Value) (ts : List Term) → AreHeld whole vs ts → all_in (Held whole) vs ts
   all-held [] [] h = tt
@@ -373,7 +375,7 @@ module _ (m : Module) (flat : IsFlatModule m) (hold : Every Holds (owed_of alway
       let patterns : List (Node PatternKind) = (out-ClauseKind b.clause.kind).patterns in
       let p : ((out-ClauseKind b.clause.kind).guard ≡ None) × Every IsPattern patterns × IsBody (out-ClauseKind b.clause.kind).body = clause-parts (out-ClauseKind b.clause.kind) b.clause.place b.clause.marks b.clause_formed in
       let distinct : Every HasDistinctHead (b.clause ∷ []) = subst (λ z. Every HasDistinctHead z) b.one_clause (every-at _ f (functions_of m) flat.distinct_heads a) in
-      let one : Every HasOneArrow (specs_of m) = one-arrow-each (specs_in m.forms) (specs_of m) (forms-specs m.forms (well_formed-forms m flat.well_formed)) flat.readable.specs_read in
+      let one : Every HasOneArrow (specs_of m) = one-arrow-each (specs_in m.forms) (specs_of m) (forms-specs m.forms (well_formed-forms m (flat-formed m flat))) flat.readable.specs_read in
       let len : length patterns ≡ length arrow.params = sym (arrow-arity (specs_of m) f.name (clauses_arity f.clauses) arrow one c ∙ ap clauses_arity b.one_clause) in
       let t : Taken (Held whole) (bound_by patterns) (variable_type patterns arrow.params) no_bindings (match_patterns patterns vs no_bindings) = take-patterns (Held whole) patterns arrow.params vs no_bindings p.1 distinct.0 len (all-held vs arrow.params h) (λ x z. refl) in
       let same : run_clauses apply f.clauses vs steps ≡ run_expression apply b.expression t.environment steps =
@@ -442,7 +444,7 @@ module _ (m : Module) (flat : IsFlatModule m) (hold : Every Holds (owed_of alway
   safe-run f arrow i args steps a c h =
       let k : IsArrowOfKeys arrow = keys-of f.name (clauses_arity f.clauses) arrow c in
       let e : arrows_of (specs_of m) f.name (clauses_arity f.clauses) ≡ arrow ∷ [] = only-arrow f arrow a c in
-      let one : Every HasOneArrow (specs_of m) = one-arrow-each (specs_in m.forms) (specs_of m) (forms-specs m.forms (well_formed-forms m flat.well_formed)) flat.readable.specs_read in
+      let one : Every HasOneArrow (specs_of m) = one-arrow-each (specs_in m.forms) (specs_of m) (forms-specs m.forms (well_formed-forms m (flat-formed m flat))) flat.readable.specs_read in
       let n : length args ≡ clauses_arity f.clauses = in-length (InTerm whole 0) args arrow.params i h ∙ arrow-arity (specs_of m) f.name (clauses_arity f.clauses) arrow one c in
       subst (λ z. IsRightRun whole (apply code (named_fun f.name z) args steps) arrow.result i) n
       (run-right (apply code (named_fun f.name (length args)) args steps) arrow.result i k.1 (calls-good steps f.name arrow args steps (ap (arrows_of (specs_of m) f.name) n ∙ e) (values-moved arrow.params k.0 whole whole 0 0 i no_variables args h)))

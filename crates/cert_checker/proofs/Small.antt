@@ -1,5 +1,5 @@
 -- The small modules of the examples, by computing.
-use Rattle.std.proofs.Common.{◌≡◌, refl, sym, ◌∙◌, ap, subst, inl, inr, ℕ, ℤ, ◌+◌, ◌≤◌, ◌<◌, List, [], ◌∷◌, ◌++◌, arith}
+use Rattle.std.proofs.Common.{◌≡◌, refl, sym, ◌∙◌, ap, subst, inl, inr, ℕ, ℤ, ◌+◌, ◌<◌, List, [], ◌∷◌, ◌++◌, arith}
 use Rattle.std.specs.Prelude.{Bool, true, false, ◌&&◌, nat_le, pos, negsuc, codes, Option, Some, map, if◌then◌else◌}
 use Rattle.std.specs.Option.{unwrap_or}
 use Rattle.std.proofs.lemmas.Bool.{and_parts, true≢false, false≢true}
@@ -19,17 +19,25 @@ use Rattle.erl_tree.specs.declared.type_expr.TypeKind.{TypeKind}
 use Rattle.erl_tree.specs.declared.expr.BinaryOp.TheVariants.{Add, Sub}
 use Rattle.erl_tree.specs.declared.expr.ExprKind.{ExprKind}
 use Rattle.erl_tree.specs.declared.expr.ExprKind.TheVariants as E
+use Rattle.erl_tree.specs.declared.form.TreeForm.TheVariants as F
 use Rattle.erl_tree.specs.Lists.{Every, Among, AreDistinct}
-use Rattle.erl_tree.specs.Spelling.{tokens_of}
-use Rattle.erl_tree.specs.Limits.{integer_limit, IsInLimit, HasIntegersInLimit, IsShallow, IsShallowType, type_depth, expr_depth}
-use Rattle.erl_tree.specs.Grammar.{IsType, one_type, use_type, atom_type, IsExpr, one_product, sum, IsOperand, one_operand, integer, atom, variable, call, last_argument, IsWellFormed}
+use Rattle.flat_modules.specs.Spelling.{tokens_of}
+use Rattle.erl_tree.specs.Limits.{integer_limit, IsInLimit}
+use Rattle.flat_modules.specs.Grammar.{IsType, one_type, use_type, atom_type, IsExpr, one_product, sum, IsOperand, one_operand, integer, atom, variable, call, last_argument, IsWellFormed}
+use Rattle.erl_grammar.specs.Nesting.{nesting_limit, clause_deep, IsExprWithin}
+use Rattle.erl_grammar.specs.TypeNesting.{IsTypeWithin}
+use Rattle.erl_grammar.specs.FormNesting.{form_deep, IsModuleWithin}
+use Rattle.erl_grammar.proofs.NestingLaws.{pattern_kind_deep-Var, expr_deep_laws, item_kind_deep-Value, clause_kind_deep-clause_of}
+use Rattle.erl_grammar.proofs.TypeNestingLaws.{type_deep_laws}
 use Rattle.erl_runs.specs.Specs.{type_term, and_then, all_present, clause_arrow, arrows_arity, function_spec, read_specs, specs_of, spec_id}
-use Rattle.erl_runs.specs.Readable.{built_ins, used_in, called_in, IsReadable, IsFlatModule}
+use Rattle.erl_runs.specs.Readable.{built_ins, used_in, called_in, IsReadable}
 use Rattle.erl_tree.specs.Functions.{FunctionId, of_function, function_ids, functions_of}
-use Rattle.erl_tree.proofs.TreeLaws.{expr_depth_laws, expr_tokens_laws, type_tokens_laws, type_depth_laws}
+use Rattle.flat_modules.specs.FlatModules.{IsFlatModule}
+use Rattle.flat_modules.proofs.TreeLaws.{expr_tokens_laws, type_tokens_laws}
+use Rattle.flat_modules.proofs.FlatLaws.{AreInLimit, flat-module}
 use Rattle.erl_runs.proofs.MeaningLaws.{used_laws, called_laws, type_term_laws}
 use Rattle.cert_checker.specs.Examples as X
-use Rattle.cert_checker.specs.Examples.{place, leaf, integer_type, small_spec_clause, small_spec, small_module, identity, constant, recursive_call, recursive, two_calls, second_call_wrong, integers, spec_to_integers, small_specs}
+use Rattle.cert_checker.specs.Examples.{place, leaf, integer_type, small_spec_clause, small_spec, small_clause, small_module, identity, constant, recursive_call, recursive, two_calls, second_call_wrong, integers, spec_to_integers, small_specs}
 use Rattle.erl_runs.specs.Specs.{one_integer}
 use Rattle.erl_runs.specs.Value as V
 use Rattle.erl_runs.specs.Running
@@ -84,8 +92,8 @@ integer-formed line column = one_type _ (use_type (place line column) (place lin
 integer-term : (line column : ℕ) → type_term (integer_type line column) ≡ Some integers
 integer-term line column = simp type_term_laws refl
 
-integer-depth : (line column : ℕ) → type_depth (integer_type line column) ≡ 1
-integer-depth line column = simp type_depth_laws refl
+integer-within : (line column : ℕ) → IsTypeWithin nesting_limit (integer_type line column)
+integer-within line column = simp type_deep_laws refl
 
 atom-formed : (line column : ℕ) → IsType (X.atom_type line column)
 atom-formed line column = one_type _ (atom_type (place line column) (codes "a"))
@@ -100,9 +108,6 @@ spec-read name line close type t e =
     λ j. and_then (and_then (e j) (λ a. and_then (all_present []) (λ more. Some (a ∷ more)))) (λ params. and_then (integer-term line (close + 5) j) (λ result. Some (record { params = params; result = result }))) in
     ap (λ (o : Option Arrow). and_then (and_then o (λ a. and_then (all_present []) (λ more. Some (a ∷ more)))) (λ arrows. Some (record { name = name; arity = arrows_arity arrows; vars = 0; clauses = arrows }))) a
 
-shallow : (type : Node TypeKind) → type_depth type ≡ 1 → IsShallowType type
-shallow type e = omega (arith, e)
-
 among-left : (id : FunctionId) (ids others : List FunctionId) → Among id ids → Among id (ids ++ others)
 among-left id (i ∷ ids) others (inl e) = inl e
 among-left id (i ∷ ids) others (inr a) = inr (among-left id ids others a)
@@ -112,6 +117,17 @@ among-left id [] others a = absurd a
 wider : (ids others called : List FunctionId) → Every (λ id. Among id ids) called → Every (λ id. Among id (ids ++ others)) called
 wider ids others [] h = tt
 wider ids others (id ∷ called) h = (among-left id ids others h.0, wider ids others called h.1)
+
+-- ---- nesting
+
+spec-within : (name : Name) (line close : ℕ) (type : Node TypeKind) → IsTypeWithin nesting_limit type → form_deep (F.Spec (small_spec name line close type)) nesting_limit ≡ []
+spec-within name line close type h = λ j. ((h j ++ []) ++ (integer-within line (close + 5) j ++ [])) ++ []
+
+clause-within : (line : ℕ) (x : Name) (e : Node ExprKind) → IsExprWithin nesting_limit e → clause_deep (small_clause line x e) nesting_limit ≡ []
+clause-within line x e h = clause_kind_deep-clause_of _ _ _ nesting_limit ∙ (λ j. (pattern_kind_deep-Var x 255 j ++ []) ++ ((item_kind_deep-Value e nesting_limit ∙ h) j ++ []))
+
+function-within : (name : Name) (line dot : ℕ) (x : Name) (e : Node ExprKind) → IsExprWithin nesting_limit e → form_deep (F.Function (small_function name line dot x e)) nesting_limit ≡ []
+function-within name line dot x e h = λ j. clause-within line x e h j ++ []
 
 -- ---- modules of one function
 
@@ -123,7 +139,7 @@ module _ (dot : ℕ) (e : Node ExprKind) where
   unfolding specs_of
   specs-are = ap (λ (o : Option (List FunSpec)). unwrap_or o []) specs-read
 
-  module _ (formed : IsExpr e) (used : Every (λ x. Among x (codes "X" ∷ [])) (used_in e.kind)) (called : Every (λ id. Among id (of_function (codes "f") 1 ∷ [])) (called_in e.kind)) (depth : expr_depth e ≤ 256) (limit : HasIntegersInLimit (small_module dot e)) where
+  module _ (formed : IsExpr e) (used : Every (λ x. Among x (codes "X" ∷ [])) (used_in e.kind)) (called : Every (λ id. Among id (of_function (codes "f") 1 ∷ [])) (called_in e.kind)) (within : IsExprWithin nesting_limit e) (limit : AreInLimit (tokens_of (small_module dot e))) where
     small-formed : IsWellFormed (small_module dot e)
     unfolding IsWellFormed Rattle.erl_tree.specs.declared.type_expr.TypeKind.TheViews.out-TypeKind denote.Hole.Carrier.out Rattle.erl_tree.specs.declared.pattern.PatternKind.TheViews.out-PatternKind Rattle.erl_tree.specs.declared.expr.ExprKind.TheViews.out-ItemKind Rattle.erl_tree.specs.declared.expr.ExprKind.TheBlock.shown-the_row-ExprKind-0 denote.Hole.Carrier.shown denote.Hole.Carrier.hidden
     small-formed = ((refl, (refl, (integer-formed 2 9, tt), omega arith, tt, integer-formed 2 23, refl)), ((refl, (refl, refl, (refl, tt), omega arith, tt, (refl, formed))), tt))
@@ -141,33 +157,32 @@ module _ (dot : ℕ) (e : Node ExprKind) where
       calls_defined = (((wider (of_function (codes "f") 1 ∷ []) built_ins (called_in e.kind) called, tt), tt), tt);
     }
 
-    small-shallow : IsShallow (small_module dot e)
-    unfolding Rattle.erl_tree.specs.declared.type_expr.TypeKind.TheViews.out-TypeKind denote.Hole.Carrier.out Rattle.erl_tree.specs.declared.pattern.PatternKind.TheViews.out-PatternKind Rattle.erl_tree.specs.declared.expr.ExprKind.TheViews.out-ItemKind Rattle.erl_tree.specs.declared.expr.ExprKind.TheBlock.shown-the_row-ExprKind-0 denote.Hole.Carrier.shown denote.Hole.Carrier.hidden
-    small-shallow = ((((shallow (integer_type 2 9) (integer-depth 2 9), tt), shallow (integer_type 2 23) (integer-depth 2 23)), tt), (((depth, tt), tt), tt))
+    small-within : IsModuleWithin nesting_limit (small_module dot e)
+    small-within = λ j. spec-within (codes "f") 2 18 (integer_type 2 9) (integer-within 2 9) j ++ (function-within (codes "f") 3 dot (codes "X") e within j ++ [])
 
     pub small-flat : IsFlatModule (small_module dot e)
     unfolding Rattle.erl_tree.specs.declared.type_expr.TypeKind.TheViews.out-TypeKind denote.Hole.Carrier.out Rattle.erl_tree.specs.declared.pattern.PatternKind.TheViews.out-PatternKind Rattle.erl_tree.specs.declared.expr.ExprKind.TheViews.out-ItemKind Rattle.erl_tree.specs.declared.expr.ExprKind.TheBlock.shown-the_row-ExprKind-0 denote.Hole.Carrier.shown denote.Hole.Carrier.hidden
-    small-flat = record { well_formed = small-formed; readable = small-readable; distinct_heads = ((((λ x. x), tt), tt), tt); own_calls = (((called, tt), tt), tt); shallow = small-shallow; in_limit = limit }
+    small-flat = flat-module (small_module dot e) small-formed small-readable ((((λ x. x), tt), tt), tt) (((called, tt), tt), tt) small-within limit
 
 -- an expression of one token
-leaf-flat : (e : ExprKind) → IsExpr (leaf 3 9 e) → Every (λ x. Among x (codes "X" ∷ [])) (used_in e) → Every (λ id. Among id (of_function (codes "f") 1 ∷ [])) (called_in e) → expr_depth (leaf 3 9 e) ≡ 1 → HasIntegersInLimit (small_module 10 (leaf 3 9 e)) → IsFlatModule (small_module 10 (leaf 3 9 e))
-leaf-flat e formed used called depth limit = small-flat 10 (leaf 3 9 e) formed used called (omega (arith, depth)) limit
+leaf-flat : (e : ExprKind) → IsExpr (leaf 3 9 e) → Every (λ x. Among x (codes "X" ∷ [])) (used_in e) → Every (λ id. Among id (of_function (codes "f") 1 ∷ [])) (called_in e) → IsExprWithin nesting_limit (leaf 3 9 e) → AreInLimit (tokens_of (small_module 10 (leaf 3 9 e))) → IsFlatModule (small_module 10 (leaf 3 9 e))
+leaf-flat e formed used called within limit = small-flat 10 (leaf 3 9 e) formed used called within limit
 
-limit-identity : HasIntegersInLimit identity
+limit-identity : AreInLimit (tokens_of identity)
 unfolding tokens_of all_below below_limit Rattle.erl_tree.specs.declared.type_expr.TypeKind.TheViews.out-TypeKind denote.Hole.Carrier.out Rattle.erl_tree.specs.declared.pattern.PatternKind.TheViews.out-PatternKind Rattle.erl_tree.specs.declared.expr.ExprKind.TheViews.out-ItemKind Rattle.erl_tree.specs.declared.expr.ExprKind.TheBlock.shown-the_row-ExprKind-0 denote.Hole.Carrier.shown denote.Hole.Carrier.hidden
 limit-identity = tokens-in_limit (tokens_of identity) (simp (type_tokens_laws, expr_tokens_laws) refl)
 
 pub identity-flat : IsFlatModule identity
-identity-flat = leaf-flat (E.Var (codes "X")) (one_product _ (one_operand _ (variable (place 3 9) (codes "X")))) (simp used_laws (inl refl, tt)) (simp called_laws tt) (simp expr_depth_laws refl) limit-identity
+identity-flat = leaf-flat (E.Var (codes "X")) (one_product _ (one_operand _ (variable (place 3 9) (codes "X")))) (simp used_laws (inl refl, tt)) (simp called_laws tt) (simp expr_deep_laws refl) limit-identity
 
-limit-constant : HasIntegersInLimit constant
+limit-constant : AreInLimit (tokens_of constant)
 unfolding tokens_of all_below below_limit Rattle.erl_tree.specs.declared.type_expr.TypeKind.TheViews.out-TypeKind denote.Hole.Carrier.out Rattle.erl_tree.specs.declared.pattern.PatternKind.TheViews.out-PatternKind Rattle.erl_tree.specs.declared.expr.ExprKind.TheViews.out-ItemKind Rattle.erl_tree.specs.declared.expr.ExprKind.TheBlock.shown-the_row-ExprKind-0 denote.Hole.Carrier.shown denote.Hole.Carrier.hidden
 limit-constant = tokens-in_limit (tokens_of constant) (simp (type_tokens_laws, expr_tokens_laws) refl)
 
 pub constant-flat : IsFlatModule constant
-constant-flat = leaf-flat (E.Atom (codes "a")) (one_product _ (one_operand _ (atom (place 3 9) (codes "a")))) (simp used_laws tt) (simp called_laws tt) (simp expr_depth_laws refl) limit-constant
+constant-flat = leaf-flat (E.Atom (codes "a")) (one_product _ (one_operand _ (atom (place 3 9) (codes "a")))) (simp used_laws tt) (simp called_laws tt) (simp expr_deep_laws refl) limit-constant
 
-limit-recursive : HasIntegersInLimit recursive
+limit-recursive : AreInLimit (tokens_of recursive)
 unfolding tokens_of all_below below_limit Rattle.erl_tree.specs.declared.type_expr.TypeKind.TheViews.out-TypeKind denote.Hole.Carrier.out Rattle.erl_tree.specs.declared.pattern.PatternKind.TheViews.out-PatternKind Rattle.erl_tree.specs.declared.expr.ExprKind.TheViews.out-ItemKind Rattle.erl_tree.specs.declared.expr.ExprKind.TheBlock.shown-the_row-ExprKind-0 denote.Hole.Carrier.shown denote.Hole.Carrier.hidden
 limit-recursive = tokens-in_limit (tokens_of recursive) (simp (type_tokens_laws, expr_tokens_laws) refl)
 
@@ -177,11 +192,11 @@ one_less-formed = sum Sub (leaf 3 11 (E.Var (codes "X"))) (leaf 3 15 (E.Int (pos
 recursive-formed : IsExpr recursive_call
 recursive-formed = one_product _ (one_operand _ (call (place 3 9) (place 3 10) (place 3 16 ∷ []) (codes "f") (X.one_less ∷ []) (last_argument X.one_less (place 3 16) one_less-formed)))
 
-recursive-depth : expr_depth recursive_call ≡ 3
-recursive-depth = simp expr_depth_laws refl
+recursive-within : IsExprWithin nesting_limit recursive_call
+recursive-within = simp expr_deep_laws refl
 
 pub recursive-flat : IsFlatModule recursive
-recursive-flat = small-flat 17 recursive_call recursive-formed (simp used_laws (inl refl, tt)) (simp called_laws (inl refl, tt)) (omega (arith, recursive-depth)) limit-recursive
+recursive-flat = small-flat 17 recursive_call recursive-formed (simp used_laws (inl refl, tt)) (simp called_laws (inl refl, tt)) recursive-within limit-recursive
 
 -- ---- what the modules owe
 
@@ -278,7 +293,7 @@ both-distinct = ((λ a. elim a [ inl e ↦ apart e | inr b ↦ b ]), ((λ a. a),
 both-among : Every (λ id. Among id both_ids) both_ids
 both-among = (inl refl, (inr (inl refl), tt))
 
-limit-second : HasIntegersInLimit second_call_wrong
+limit-second : AreInLimit (tokens_of second_call_wrong)
 unfolding tokens_of all_below below_limit Rattle.erl_tree.specs.declared.type_expr.TypeKind.TheViews.out-TypeKind denote.Hole.Carrier.out Rattle.erl_tree.specs.declared.pattern.PatternKind.TheViews.out-PatternKind Rattle.erl_tree.specs.declared.expr.ExprKind.TheViews.out-ItemKind Rattle.erl_tree.specs.declared.expr.ExprKind.TheBlock.shown-the_row-ExprKind-0 denote.Hole.Carrier.shown denote.Hole.Carrier.hidden
 limit-second = tokens-in_limit (tokens_of second_call_wrong) (simp (type_tokens_laws, expr_tokens_laws) refl)
 
@@ -290,14 +305,14 @@ two-formed = sum Add (X.small_call 9 (E.Int (pos 1))) (X.small_call 16 (E.Var (c
     (one_product _ (one_operand _ (call-formed 9 (E.Int (pos 1)) (one_product _ (one_operand _ (integer (place 5 11) (pos 1)))))))
     (one_operand _ (call-formed 16 (E.Var (codes "Y")) (one_product _ (one_operand _ (variable (place 5 18) (codes "Y"))))))
 
-two-depth : expr_depth two_calls ≡ 3
-two-depth = simp expr_depth_laws refl
+two-within : IsExprWithin nesting_limit two_calls
+two-within = simp expr_deep_laws refl
 
-leaf-depth : expr_depth (leaf 3 9 (E.Var (codes "X"))) ≡ 1
-leaf-depth = simp expr_depth_laws refl
+leaf-within : IsExprWithin nesting_limit (leaf 3 9 (E.Var (codes "X")))
+leaf-within = simp expr_deep_laws refl
 
-atom-depth : (line column : ℕ) → type_depth (X.atom_type line column) ≡ 1
-atom-depth line column = simp type_depth_laws refl
+atom-within : (line column : ℕ) → IsTypeWithin nesting_limit (X.atom_type line column)
+atom-within line column = simp type_deep_laws refl
 
 two-used : used_in two_calls.kind ≡ codes "Y" ∷ []
 two-used = simp used_laws refl
@@ -337,22 +352,14 @@ second-readable = record {
   calls_defined = (((simp called_laws tt, tt), tt), (((wider both_ids built_ins (called_in two_calls.kind) two-own, tt), tt), tt));
 }
 
-second-shallow : IsShallow second_call_wrong
-unfolding Rattle.erl_tree.specs.declared.type_expr.TypeKind.TheViews.out-TypeKind denote.Hole.Carrier.out Rattle.erl_tree.specs.declared.pattern.PatternKind.TheViews.out-PatternKind Rattle.erl_tree.specs.declared.expr.ExprKind.TheViews.out-ItemKind Rattle.erl_tree.specs.declared.expr.ExprKind.TheBlock.shown-the_row-ExprKind-0 denote.Hole.Carrier.shown denote.Hole.Carrier.hidden
-second-shallow = (
-  (((shallow (integer_type 2 9) (integer-depth 2 9), tt), shallow (integer_type 2 23) (integer-depth 2 23)), tt),
-  (
-    ((omega (arith, leaf-depth), tt), tt),
-    (
-      (((shallow (X.atom_type 4 9) (atom-depth 4 9), tt), shallow (integer_type 4 15) (integer-depth 4 15)), tt),
-      (((omega (arith, two-depth), tt), tt), tt),
-    ),
-  ),
-)
+second-within : IsModuleWithin nesting_limit second_call_wrong
+second-within = λ j. spec-within (codes "f") 2 18 (integer_type 2 9) (integer-within 2 9) j
+    ++ (function-within (codes "f") 3 10 (codes "X") (leaf 3 9 (E.Var (codes "X"))) leaf-within j
+    ++ (spec-within (codes "g") 4 10 (X.atom_type 4 9) (atom-within 4 9) j ++ (function-within (codes "g") 5 20 (codes "Y") two_calls two-within j ++ [])))
 
 pub second-flat : IsFlatModule second_call_wrong
 unfolding Rattle.erl_tree.specs.declared.type_expr.TypeKind.TheViews.out-TypeKind denote.Hole.Carrier.out Rattle.erl_tree.specs.declared.pattern.PatternKind.TheViews.out-PatternKind Rattle.erl_tree.specs.declared.expr.ExprKind.TheViews.out-ItemKind Rattle.erl_tree.specs.declared.expr.ExprKind.TheBlock.shown-the_row-ExprKind-0 denote.Hole.Carrier.shown denote.Hole.Carrier.hidden
-second-flat = record { well_formed = second-formed; readable = second-readable; distinct_heads = ((((λ x. x), tt), tt), ((((λ x. x), tt), tt), tt)); own_calls = (((simp called_laws tt, tt), tt), (((two-own, tt), tt), tt)); shallow = second-shallow; in_limit = limit-second }
+second-flat = flat-module second_call_wrong second-formed second-readable ((((λ x. x), tt), tt), ((((λ x. x), tt), tt), tt)) (((simp called_laws tt, tt), tt), (((two-own, tt), tt), tt)) second-within limit-second
 
 pub second-wrong : (apply (code_of second_call_wrong []) (V.named_fun (codes "g") 1) (V.atom (codes "a") ∷ []) 3).outcome ≡ V.wrong
 unfolding apply_within Running.then Rattle.erl_tree.specs.declared.type_expr.TypeKind.TheViews.out-TypeKind denote.Hole.Carrier.out Rattle.erl_tree.specs.declared.pattern.PatternKind.TheViews.out-PatternKind Rattle.erl_tree.specs.declared.expr.ExprKind.TheViews.out-ItemKind Rattle.erl_tree.specs.declared.expr.ExprKind.TheBlock.shown-the_row-ExprKind-0 denote.Hole.Carrier.shown denote.Hole.Carrier.hidden

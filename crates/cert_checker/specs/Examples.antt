@@ -19,7 +19,7 @@ use Rattle.erl_tree.specs.declared.form.Function.{Function}
 use Rattle.erl_tree.specs.declared.form.TreeForm.{TreeForm}
 use Rattle.erl_tree.specs.declared.form.TreeForm.TheVariants as F
 use Rattle.erl_tree.specs.declared.form.Module.{Module}
-use Rattle.erl_tree.specs.Grammar.{node}
+use Rattle.flat_modules.specs.Grammar.{node}
 
 abbrev pub place : ℕ → ℕ → Place
 place line column = record { line = line; column = column }

@@ -17,7 +17,7 @@ use Rattle.erl_tree.specs.declared.type_expr.TypeKind.{TypeKind, fold-TypeKind}
 use Rattle.erl_tree.specs.declared.type_expr.TypeKind.TheOpen as Y
 use Rattle.erl_tree.specs.declared.expr.ExprKind.{ExprKind, fold-ExprKind}
 use Rattle.erl_tree.specs.declared.expr.ExprKind.TheOpen as E
-use Rattle.erl_tree.specs.Grammar.{IsType, IsExpr}
+use Rattle.flat_modules.specs.Grammar.{IsType, IsExpr}
 use Rattle.erl_tree.specs.Limits.{integer_limit}
 use Rattle.erl_runs.specs.Specs.{and_then, end_of, range, type_term}
 use Rattle.erl_runs.specs.Value.{Value, integer, atom}

@@ -3,7 +3,7 @@ ghost use Rattle.type_terms.specs.Definitions.{given_definitions};
 ghost use Rattle.erl_tree.specs.Lists.{Every, Among};
 ghost use Rattle.erl_tree.specs.Functions.{functions_in, functions_of, clauses_arity};
 ghost use Rattle.erl_runs.specs.Specs.{specs_of};
-ghost use Rattle.erl_runs.specs.Readable.{IsFlatModule};
+ghost use Rattle.flat_modules.specs.FlatModules.{IsFlatModule};
 ghost use Rattle.erl_runs.specs.Membership.{arrows_of};
 ghost use Rattle.erl_runs.specs.Safety.{IsSafe};
 ghost use Rattle.cert_checker.specs.Constraints.{Test, FindsFits, Holds, owed_for_arrows, owed_by_functions};

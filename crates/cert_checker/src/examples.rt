@@ -4,7 +4,7 @@ ghost use Rattle.std.specs.Prelude.{◌≡◌, Some, [], ◌∷◌, codes, pos};
 ghost use Rattle.type_terms.specs.Definitions.{given_definitions};
 ghost use Rattle.type_terms.specs.declared.term.Key.TheVariants.{Atom as AtomKey};
 ghost use Rattle.type_terms.specs.declared.spec.Kind.TheVariants.{Call as CallKind, Result as ResultKind};
-ghost use Rattle.erl_runs.specs.Readable.{IsFlatModule};
+ghost use Rattle.flat_modules.specs.FlatModules.{IsFlatModule};
 ghost use Rattle.erl_runs.specs.Running.{apply, code_of};
 ghost use Rattle.erl_runs.specs.Safety.{IsSafe};
 ghost use Rattle.erl_runs.specs.Specs.{specs_of, type_term};

@@ -6,7 +6,7 @@ ghost use Rattle.cert_checker.specs.declared.refusal.Shown.{Shown as ShownElemen
 ghost use Rattle.std.specs.Prelude.{◌≡◌, length};
 ghost use Rattle.erl_tree.specs.declared.form.Module.{Module as Tree};
 ghost use Rattle.erl_tree.specs.Functions.{functions_of};
-ghost use Rattle.erl_runs.specs.Readable.{IsFlatModule};
+ghost use Rattle.flat_modules.specs.FlatModules.{IsFlatModule};
 ghost use Rattle.erl_runs.specs.Safety.{IsSafe};
 ghost use Rattle.erl_runs.specs.Specs.{specs_of};
 ghost use Rattle.cert_checker.specs.Constraints.{IsWithin, Test, owed_of, result_count};

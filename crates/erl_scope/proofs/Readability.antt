@@ -14,9 +14,13 @@ use Rattle.erl_tree.specs.declared.form.Module.{Module}
 use Rattle.erl_tree.specs.Lists.{Every, Among, AreDistinct}
 use Rattle.erl_tree.specs.Functions.{FunctionId, function_id, functions_in, function_ids}
 use Rattle.erl_runs.specs.Specs.{function_spec, specs_in, read_specs, specs_of, spec_id}
-use Rattle.erl_tree.specs.Grammar.{IsWellFormed}
-use Rattle.erl_tree.specs.Limits.{IsShallow, HasIntegersInLimit}
-use Rattle.erl_runs.specs.Readable.{IsScoped, IsScopedClause, FunctionCallsOnly, CallsOnly, called_item_layer, built_ins, HasDistinctHead, HasDistinctHeads, is_built_in, IsFlatModule}
+use Rattle.erl_grammar.specs.FormGrammar.{IsModule}
+use Rattle.erl_grammar.specs.FormNesting.{IsModuleWithin}
+use Rattle.erl_grammar.specs.Nesting.{nesting_limit}
+use Rattle.erl_grammar.specs.Texts.{HasIntegersInLimit}
+use Rattle.erl_runs.specs.Readable.{IsScoped, IsScopedClause, FunctionCallsOnly, CallsOnly, called_item_layer, built_ins, is_built_in}
+use Rattle.flat_modules.specs.Flat.{is_flat}
+use Rattle.flat_modules.specs.FlatModules.{HasDistinctHead, HasDistinctHeads, IsFlatModule}
 use Rattle.function_table.proofs.Distinct.{Among-append_left}
 use Rattle.erl_scope.specs.declared.function_names.Role.TheVariants.{Definition, Specification}
 use Rattle.erl_scope.specs.Names.{names_in, FormCallsOnly, IsRightClause, IsRightFunction, IsRightForm, HasMatchingNames}
@@ -91,8 +95,8 @@ specs_there m h = there (read_specs m) h
 
 -- ---- the whole
 
-pub flat : (m : Module) → IsWellFormed m → IsShallow m → HasIntegersInLimit m → Every IsRightForm m.forms → HasMatchingNames m.forms → IsFlatModule m
-flat m well_formed shallow in_limit forms names =
+pub flat : (m : Module) → IsModule m → is_flat m ≡ true → IsModuleWithin nesting_limit m → HasIntegersInLimit m → Every IsRightForm m.forms → HasMatchingNames m.forms → IsFlatModule m
+flat m well_formed passes within in_limit forms names =
     let right : Every IsRightFunction (functions_in m.forms) = right_functions m.forms forms in
     let read : read_specs m ≡ Some (specs_of m) = specs_there m (all-some function_spec (specs_in m.forms) (right_specs m.forms forms)) in
     let ids : names_in Definition m.forms ≡ function_ids m = defined m.forms in
@@ -100,6 +104,7 @@ flat m well_formed shallow in_limit forms names =
     let calls : Every (FunctionCallsOnly (function_ids m)) (functions_in m.forms) = form_calls (function_ids m) m.forms (subst (λ s. Every (FormCallsOnly s) m.forms) ids names.calls_defined) in
     record {
       well_formed = well_formed;
+      flat = passes;
       readable = record {
         specs_read = read;
         functions_distinct = subst AreDistinct ids names.defined_once;
@@ -112,7 +117,7 @@ flat m well_formed shallow in_limit forms names =
       };
       distinct_heads = Every-as IsRightFunction HasDistinctHeads distinct_function (functions_in m.forms) right;
       own_calls = calls;
-      shallow = shallow;
+      within = within;
       in_limit = in_limit;
     }
 
@@ -140,11 +145,11 @@ module _ (m : Module) (forms : List TreeForm) (of_module : forms ≡ m.forms) (a
   wrong_forms fails h = absurd (true≢false (sym (says.1 (subst (Every IsRightForm) (sym of_module) (flat_forms m h))) ∙ fails))
 
   module _ (r : Result Bool NoMemory) (tells : IfOk r (λ b. IsTrue b ↔ HasMatchingNames forms)) where
-    pub sound : IsWellFormed m → IsShallow m → HasIntegersInLimit m → a ≡ true → IfOk r (λ b. IsTrue b → IsFlatModule m)
-    sound well_formed shallow in_limit holds = by r tells
+    pub sound : IsModule m → is_flat m ≡ true → IsModuleWithin nesting_limit m → HasIntegersInLimit m → a ≡ true → IfOk r (λ b. IsTrue b → IsFlatModule m)
+    sound well_formed passes within in_limit holds = by r tells
       where
         by : (q : Result Bool NoMemory) → IfOk q (λ b. IsTrue b ↔ HasMatchingNames forms) → IfOk q (λ b. IsTrue b → IsFlatModule m)
-        by (Ok b) t = λ e. flat m well_formed shallow in_limit (subst (Every IsRightForm) of_module (says.0 holds)) (subst HasMatchingNames of_module (t.0 e))
+        by (Ok b) t = λ e. flat m well_formed passes within in_limit (subst (Every IsRightForm) of_module (says.0 holds)) (subst HasMatchingNames of_module (t.0 e))
         by (Err e) t = t
 
     pub complete : IfOk r (λ b. IsFlatModule m → IsTrue b)

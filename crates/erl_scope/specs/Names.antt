@@ -15,7 +15,8 @@ use Rattle.erl_tree.specs.declared.form.TreeForm.TheVariants as F
 use Rattle.erl_tree.specs.Lists.{Every, Among, AreDistinct}
 use Rattle.erl_tree.specs.Functions.{FunctionId, function_id}
 use Rattle.erl_runs.specs.Specs.{and_then, end_of, range, built_in_type, function_spec, specified_id}
-use Rattle.erl_runs.specs.Readable.{bound_by, bound_layer, used_in, used_item_layer, IsScopedClause, called_in, called_item_layer, FunctionCallsOnly, HasDistinctHead, is_built_in}
+use Rattle.erl_runs.specs.Readable.{bound_by, bound_layer, used_in, used_item_layer, IsScopedClause, called_in, called_item_layer, FunctionCallsOnly, is_built_in}
+use Rattle.flat_modules.specs.FlatModules.{HasDistinctHead}
 use Rattle.erl_scope.specs.declared.function_names.Role.{Role}
 use Rattle.erl_scope.specs.declared.function_names.Role.TheVariants.{Definition, Specification}
 
