@@ -20,8 +20,3 @@ pub use clauses::Front;
 pub use expressions::expr_at;
 pub use function_clauses::clause_at;
 pub use parse::parse_expr;
-
-#[cfg(test)]
-mod printed;
-#[cfg(test)]
-mod texts;

@@ -16,8 +16,3 @@ mod tokens;
 mod type_definitions;
 
 pub use modules::parse;
-
-#[cfg(test)]
-mod printed;
-#[cfg(test)]
-mod texts;

@@ -12,8 +12,3 @@ mod types;
 
 pub use parse::parse_type;
 pub use types::{parameter_at, type_at};
-
-#[cfg(test)]
-mod printed;
-#[cfg(test)]
-mod texts;
