@@ -1,13 +1,1 @@
-pub mod TokenLaws
-pub mod Shapes
-pub mod PartLaws
-pub mod Nesting
-pub mod TypeLaws
-pub mod ExprLaws
-pub mod BodyLaws
-pub mod ParameterLaws
-pub mod FormLaws
-pub mod ModuleLaws
-pub mod Depths
-pub mod LoopLaws
 pub mod TextLaws

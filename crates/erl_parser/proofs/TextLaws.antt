@@ -1,30 +1,25 @@
 -- What a text spells, joined to what its tokens are.
-use Rattle.std.proofs.Common.{◌≡◌, sym, subst, List, [], ◌∷◌, ◌++◌, ℕ, Result, Ok, Err}
-use Rattle.std.specs.Prelude.{IfOk}
+use Rattle.std.proofs.Common.{◌≡◌, ◌∙◌, sym, subst, List, [], ◌∷◌, ◌++◌, ℕ}
 use Rattle.erl_tree.specs.Lexis.{SpellsTokens, after, start}
 use Rattle.erl_tree.specs.Lists.{Every}
 use Rattle.erl_tree.specs.Limits.{IsInLimit}
 use Rattle.erl_tree.specs.Profile.{BeginsWith, IsLexed}
 use Rattle.erl_tree.specs.declared.token.Place.{Place}
 use Rattle.erl_tree.specs.declared.token.Token.TheVariants as T
-use Rattle.erl_tree.specs.Spelling.{tokens_of}
-use Rattle.erl_tree.specs.Grammar.{IsWellFormed, SpellsModule}
-use Rattle.erl_runs.specs.Readable.{IsFlatModule}
 use Rattle.erl_tree.specs.declared.token.Placed.{Placed}
 use Rattle.erl_tree.specs.declared.form.Module.{Module}
 use Rattle.erl_tree.proofs.Spelled.{bytes_spell_one}
-use Rattle.erl_parser.specs.declared.fault.FirstFault.{FirstFault}
-use Rattle.erl_parser.proofs.ModuleLaws.{one_module}
+use Rattle.erl_grammar.specs.FormSpelling.{module_tokens}
+use Rattle.erl_grammar.specs.FormGrammar.{IsModule}
+use Rattle.erl_grammar.specs.Texts.{SpellsModule}
+use Rattle.form_parser.proofs.WholeModules as whole
 
 -- the tokens of a module that the bytes spell are the ones that they spell
-pub same_tokens : (bytes : List ℕ) (tokens : List Placed) (m : Module) → SpellsTokens bytes tokens → SpellsModule bytes m → tokens_of m ≡ tokens
-same_tokens bytes tokens m h s = bytes_spell_one bytes (tokens_of m) tokens s.tokens h
+pub same_tokens : (bytes : List ℕ) (tokens : List Placed) (m : Module) → SpellsTokens bytes tokens → SpellsModule bytes m → module_tokens m ≡ tokens
+same_tokens bytes tokens m h s = bytes_spell_one bytes (module_tokens m) tokens s.tokens h
 
--- tokens are those of no other module than the one that was read
-pub only_module : (tokens : List Placed) (r : Result Module FirstFault) → IfOk r (λ m. tokens_of m ≡ tokens) → IfOk r (λ m. IsFlatModule m)
-    → IfOk r (λ m. (other : Module) → IsWellFormed other → tokens_of other ≡ tokens → other ≡ m)
-only_module tokens (Ok m) e f = λ other w s. one_module tokens other m w f.well_formed s e
-only_module tokens (Err fault) e f = tt
+pub one_module : (bytes : List ℕ) (m n : Module) → SpellsModule bytes m → SpellsModule bytes n → m ≡ n
+one_module bytes m n h k = whole.one_module m n h.well_formed k.well_formed (bytes_spell_one bytes (module_tokens m) (module_tokens n) h.tokens k.tokens)
 
 begins_in_limit : (ts : List Placed) (p : Place) (text : List ℕ) (there : Place) (rest : List ℕ) → BeginsWith p text ts there rest → (last : Placed) → IsInLimit last.token → Every (λ t. IsInLimit t.token) (ts ++ last ∷ [])
 unfolding BeginsWith

@@ -1,20 +1,9 @@
-//! The parser of Erlang modules: from tokens to trees, by the grammar of the Erlang Reference
-//! Manual ("Modules", "Functions", "Types and Function Specifications"), in its part on flat modules.
+//! The parser of Erlang: from the tokens of a text to the tree of a module, or of one type, by the
+//! grammar of the Erlang Reference Manual (`docs/LANGUAGE.md`).
 #![tactic(auto)]
 
-mod expressions;
-mod fault;
-mod forms;
-mod parameters;
-mod parse;
-mod parts;
-mod read;
-mod tokens;
-mod types;
+pub mod laws;
 
-pub use fault::FirstFault;
-pub use parse::one_tree;
-pub use read::parse_first;
-
-#[cfg(test)]
-mod tests;
+pub use form_parser::parse;
+pub use token_readers::ParseFault;
+pub use type_parser::parse_type;

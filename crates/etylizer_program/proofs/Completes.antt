@@ -1,11 +1,18 @@
 -- What the program answers of a text, unless the outside fails or memory runs out.
 use Rattle.std.proofs.Common.{◌≡◌, ◌≢◌, ◌∙◌, ◌⊎◌, ◌<◌, ◌≤◌, ℕ, zero, suc, List, [], ◌∷◌, ◌++◌, length, codes, Option, Some, None, Result, Ok, Err, IfOk, IfErr, IsErrOf, IsOk, refl, ap, sym, subst, inl, inr, arith}
-use Rattle.erl_tree.specs.Lists.{Every}
+use Rattle.erl_tree.specs.Lists.{Every, Among}
 use Rattle.erl_tree.specs.declared.form.Module.{Module}
 use Rattle.erl_tree.specs.declared.token.Placed.{Placed}
-use Rattle.erl_tree.specs.Spelling.{tokens_of}
+use Rattle.erl_grammar.specs.FormSpelling.{module_tokens}
+use Rattle.erl_grammar.specs.FormGrammar.{IsModule}
+use Rattle.erl_grammar.specs.Nesting.{nesting_limit}
+use Rattle.erl_grammar.specs.FormNesting.{IsModuleWithin, module_deep}
+use Rattle.flat_modules.specs.FlatModules.{IsFlatModule}
+use Rattle.token_readers.specs.declared.fault.ParseFault.{ParseFault}
+use Rattle.token_readers.specs.declared.fault.ParseFault.TheVariants as P
+use Rattle.erl_parser.proofs.TextLaws.{one_module}
+use Rattle.etylizer_program.proofs.Verdicts.{spells}
 use Rattle.erl_tree.specs.Profile.{IsLexed}
-use Rattle.erl_tree.proofs.Lexed.{lexed_is_spelled}
 use Rattle.erl_lexer.specs.declared.LexFault.{LexFault}
 use Rattle.erl_lexer.specs.declared.LexFault.TheVariants as L
 use Rattle.erl_lexer.proofs.Answered.{only_by, exact_by}
@@ -16,12 +23,15 @@ use Rattle.etylizer_program.specs.declared.check.Refused.TheVariants as R
 use Rattle.cert_checker.specs.declared.refusal.FirstRefusal.TheVariants as F
 use Rattle.etylizer_program.specs.declared.report.Verdict.{Verdict}
 use Rattle.etylizer_program.specs.declared.report.Verdict.TheVariants as V
+use Rattle.etylizer_program.specs.declared.report.Words.{Words}
+use Rattle.etylizer_program.specs.declared.report.Words.TheVariants as W
+use Rattle.erl_tree.specs.declared.token.Place.{Place}
 use Rattle.etylizer_program.specs.Outside.{Holdings, Puts}
 use Rattle.etylizer_program.specs.Commands.{command_of}
 use Rattle.etylizer_program.specs.Report.{report_text}
-use Rattle.etylizer_program.specs.Check.{text_limit, fault_at, IsFirstFault, IsNotRead, IsRightText, IsReadAs, IsAcceptedText, IsTextRefusal, IsTextVerdict}
+use Rattle.etylizer_program.specs.Check.{text_limit, IsFirstFault, IsUnexpected, IsOutOfProfile, IsTooDeep, IsNoText, IsParseRefusal, IsParsedAs, HasNoModule, IsNotBuilt, IsNoModuleAnswer, IsRightText, IsReadAs, IsAcceptedText, IsTextRefusal, IsTextVerdict}
 use Rattle.cert_checker.specs.Failures.{ShowsFirstFailure}
-use Rattle.etylizer_program.specs.Tool.{IsCheckOf, Judges, NamesText, NamesNoModule, NamesRightModule, verdict_status}
+use Rattle.etylizer_program.specs.Tool.{IsCheckOf, Judges, NamesText, NamesNoModule, NamesNotBuilt, NamesRightModule, verdict_status}
 
 -- ---- tokens and faults
 
@@ -38,46 +48,95 @@ no_fault text tokens (L.WideNumber place) lexed is = exact_by text (Ok tokens) l
 no_fault text tokens (L.BadEscape place) lexed is = exact_by text (Ok tokens) lexed tt (L.BadEscape place) is.stands
 no_fault text tokens (L.BadToken place) lexed is = exact_by text (Ok tokens) lexed tt (L.BadToken place) is.stands
 
+-- ---- texts that are parsed
+
+-- a flat module that a text spells is what it is parsed as
+read_parsed : (text : List ℕ) (m : Module) → IsLexed text (module_tokens m) → IsFlatModule m → IsParsedAs text m
+read_parsed text m lexed flat = record { lexed = lexed; well_formed = flat.well_formed; within = flat.within }
+
+right_parsed : (text : List ℕ) (right : IsRightText text) → IsParsedAs text right.tree
+right_parsed text right = read_parsed text right.tree right.lexed right.flat
+
+-- a text is parsed as one module
+same_parsed : (text : List ℕ) (m n : Module) → IsParsedAs text m → IsParsedAs text n → m ≡ n
+same_parsed text m n p q = one_module text m n (spells text m p.lexed p.well_formed) (spells text n q.lexed q.well_formed)
+
+-- nothing among no places
+among_none : (p : Place) (ps : List Place) → ps ≡ [] → Among p ps → ⊥
+among_none p ps e a = subst (λ (qs : List Place). Among p qs) e a
+
+-- a text that is parsed as a module is refused by no parser
+unexpected_none : (text : List ℕ) (m : Module) → IsParsedAs text m → IsUnexpected text → ⊥
+unexpected_none text m p u = u.spells_none.none m p.well_formed (one_lexing text (module_tokens m) u.tokens p.lexed u.spells_none.lexed)
+
+outside_none : (text : List ℕ) (m : Module) (place : Place) (form : List ℕ) → IsParsedAs text m → IsOutOfProfile text place form → ⊥
+outside_none text m place form p o = o.spells_none.none m p.well_formed (one_lexing text (module_tokens m) o.tokens p.lexed o.spells_none.lexed)
+
+deep_none : (text : List ℕ) (m : Module) (place : Place) → IsParsedAs text m → IsTooDeep text place → ⊥
+deep_none text m place p d = among_none place (module_deep m nesting_limit) p.within (d.deep m p.well_formed (one_lexing text (module_tokens m) d.tokens p.lexed d.lexed))
+
+refusal_none : (text : List ℕ) (m : Module) (fault : ParseFault) → IsParsedAs text m → IsParseRefusal text fault → ⊥
+refusal_none text m P.NoMemory p is = is
+refusal_none text m (P.OutOfProfile place form) p is = outside_none text m place form p is
+refusal_none text m (P.Unexpected place) p is = unexpected_none text m p is
+refusal_none text m (P.TooDeep place) p is = deep_none text m place p is
+
+no_text_none : (text : List ℕ) (m : Module) (place : Place) (words : Words) → IsParsedAs text m → IsNoText text place words → ⊥
+no_text_none text m place W.BadToken p is = no_fault text (module_tokens m) (L.BadToken place) p.lexed is
+no_text_none text m place W.BadEscape p is = no_fault text (module_tokens m) (L.BadEscape place) p.lexed is
+no_text_none text m place W.NumberTooWide p is = no_fault text (module_tokens m) (L.WideNumber place) p.lexed is
+no_text_none text m place (W.OutOfProfile form) p (inl is) = no_fault text (module_tokens m) (L.OutOfProfile place form) p.lexed is
+no_text_none text m place (W.OutOfProfile form) p (inr is) = outside_none text m place form p is
+no_text_none text m place W.Unexpected p is = unexpected_none text m p is
+no_text_none text m place W.TooDeep p is = deep_none text m place p is
+
+-- what is read as a flat module isn't unbuilt
+read_built : (text : List ℕ) (m : Module) → IsLexed text (module_tokens m) → IsFlatModule m → IsNotBuilt text → ⊥
+read_built text m lexed flat unbuilt = unbuilt.not_flat (subst IsFlatModule (same_parsed text m unbuilt.tree (read_parsed text m lexed flat) unbuilt.parsed) flat)
+
 -- ---- verdicts
 
 last_of : (before : List Constraint) (c : Constraint) (after : List Constraint) → Every Holds (before ++ c ∷ after) → Holds c
 last_of [] c after h = h.0
 last_of (b ∷ before) c after h = last_of before c after h.1
 
--- a text whose tokens are those of a flat module is read as that module
-same_module : (text : List ℕ) (right : IsRightText text) (n : Module) → IsReadAs text n → right.tree ≡ n
-same_module text right n read = read.only right.tree (record { tokens = lexed_is_spelled text (tokens_of right.tree) right.lexed; well_formed = right.flat.well_formed })
-
 -- a constraint that fails isn't among those that all hold
 no_failure : (text : List ℕ) (right : IsRightText text) (n : Module) (function : ℕ) (place : _) (kind : _) (shown : _) → IsReadAs text n → ShowsFirstFailure n (F.Failed function place kind shown) → ⊥
 no_failure text right n function place kind shown read shows =
     let first = shows right.fits right.finds_fits in
-    let all : Every Holds (owed_of right.fits n) = subst (λ (z : Module). Every Holds (owed_of right.fits z)) (same_module text right n read) right.meets in
+    let same : right.tree ≡ n = read.only right.tree (spells text right.tree right.lexed right.flat.well_formed) in
+    let all : Every Holds (owed_of right.fits n) = subst (λ (z : Module). Every Holds (owed_of right.fits z)) same right.meets in
     first.0.fails (last_of first.0.before _ first.0.after (subst (λ (cs : List Constraint). Every Holds cs) first.0.listed all))
-
--- a text whose tokens are those of a flat module is read
-read_right : (text : List ℕ) (right : IsRightText text) → IsNotRead text → ⊥
-read_right text right (tokens, lexed, none) = none right.tree (one_lexing text (tokens_of right.tree) tokens right.lexed lexed) right.flat
 
 -- the verdict on a flat module whose constraints hold
 accepted_verdict : (text : List ℕ) (right : IsRightText text) (verdict : Verdict) → length text ≤ text_limit → IsTextVerdict text verdict → verdict_status verdict ≡ 0
 accepted_verdict text right (V.Accepted name functions clauses) short is = refl
 accepted_verdict text right (V.Failed name function arity clause place kind shown) short is = absurd (no_failure text right is.0 is.2.number place kind shown is.1 is.2.failed)
-accepted_verdict text right (V.NotText place words) short is = absurd (no_fault text (tokens_of right.tree) (fault_at place words) right.lexed is)
-accepted_verdict text right (V.NotUtf8 at) short is = absurd (no_fault text (tokens_of right.tree) (L.NotUtf8 at) right.lexed is)
+accepted_verdict text right (V.NotText place words) short is = absurd (no_text_none text right.tree place words (right_parsed text right) is)
+accepted_verdict text right (V.NotUtf8 at) short is = absurd (no_fault text (module_tokens right.tree) (L.NotUtf8 at) right.lexed is)
 accepted_verdict text right V.TooLong short is = absurd (omega arith)
-accepted_verdict text right V.NotBuilt short is = absurd (read_right text right is)
+accepted_verdict text right V.NotBuilt short is = absurd (read_built text right.tree right.lexed right.flat is)
 accepted_verdict text right V.Usage short is = absurd is
 
--- the verdict on a text whose tokens are those of no flat module
-not_read_verdict : (text : List ℕ) (verdict : Verdict) → length text ≤ text_limit → IsNotRead text → IsTextVerdict text verdict → verdict ≡ V.NotBuilt
-not_read_verdict text (V.Accepted name functions clauses) short (tokens, lexed, none) is = absurd (none is.safe.tree (one_lexing text (tokens_of is.safe.tree) tokens is.lexed lexed) is.flat)
-not_read_verdict text (V.Failed name function arity clause place kind shown) short (tokens, lexed, none) is = absurd (none is.0 (one_lexing text (tokens_of is.0) tokens is.1.lexed lexed) is.1.flat)
-not_read_verdict text (V.NotText place words) short (tokens, lexed, none) is = absurd (no_fault text tokens (fault_at place words) lexed is)
-not_read_verdict text (V.NotUtf8 at) short (tokens, lexed, none) is = absurd (no_fault text tokens (L.NotUtf8 at) lexed is)
-not_read_verdict text V.TooLong short not_read is = absurd (omega arith)
-not_read_verdict text V.NotBuilt short not_read is = refl
-not_read_verdict text V.Usage short not_read is = absurd is
+-- the verdict on a module that isn't flat
+unbuilt_verdict : (text : List ℕ) (verdict : Verdict) → length text ≤ text_limit → IsNotBuilt text → IsTextVerdict text verdict → verdict ≡ V.NotBuilt
+unbuilt_verdict text (V.Accepted name functions clauses) short unbuilt is = absurd (read_built text is.safe.tree is.lexed is.flat unbuilt)
+unbuilt_verdict text (V.Failed name function arity clause place kind shown) short unbuilt is = absurd (read_built text is.0 is.1.lexed is.1.flat unbuilt)
+unbuilt_verdict text (V.NotText place words) short unbuilt is = absurd (no_text_none text unbuilt.tree place words unbuilt.parsed is)
+unbuilt_verdict text (V.NotUtf8 at) short unbuilt is = absurd (no_fault text (module_tokens unbuilt.tree) (L.NotUtf8 at) unbuilt.parsed.lexed is)
+unbuilt_verdict text V.TooLong short unbuilt is = absurd (omega arith)
+unbuilt_verdict text V.NotBuilt short unbuilt is = refl
+unbuilt_verdict text V.Usage short unbuilt is = absurd is
+
+-- the verdict on a text without a module
+no_module_verdict : (text : List ℕ) (verdict : Verdict) → HasNoModule text → IsTextVerdict text verdict → verdict_status verdict ≡ 3
+no_module_verdict text (V.Accepted name functions clauses) none is = absurd (none is.safe.tree (read_parsed text is.safe.tree is.lexed is.flat))
+no_module_verdict text (V.Failed name function arity clause place kind shown) none is = absurd (none is.0 (read_parsed text is.0 is.1.lexed is.1.flat))
+no_module_verdict text (V.NotText place words) none is = refl
+no_module_verdict text (V.NotUtf8 at) none is = refl
+no_module_verdict text V.TooLong none is = refl
+no_module_verdict text V.NotBuilt none is = refl
+no_module_verdict text V.Usage none is = absurd is
 
 -- ---- answers of the check of a text
 
@@ -85,18 +144,29 @@ pub right_is_accepted : (text : List ℕ) (result : Result Accepted Refused) →
 right_is_accepted text (Ok a) is right short = inl refl
 right_is_accepted text (Err R.NoMemory) is right short = inr refl
 right_is_accepted text (Err R.TooLong) is right short = absurd (omega arith)
-right_is_accepted text (Err (R.Lex fault)) is right short = absurd (no_fault text (tokens_of right.tree) fault right.lexed is)
-right_is_accepted text (Err R.NotBuilt) is right short = absurd (read_right text right is)
+right_is_accepted text (Err (R.Lex fault)) is right short = absurd (no_fault text (module_tokens right.tree) fault right.lexed is)
+right_is_accepted text (Err (R.Parse fault)) is right short = absurd (refusal_none text right.tree fault (right_parsed text right) is)
+right_is_accepted text (Err R.NotBuilt) is right short = absurd (read_built text right.tree right.lexed right.flat is)
 right_is_accepted text (Err (R.Types F.NoMemory)) is right short = absurd is.2
 right_is_accepted text (Err (R.Types (F.Failed function place kind shown))) is right short = absurd (no_failure text right is.0 function place kind shown is.1 is.2)
 
-pub unread_is_refused : (text : List ℕ) (result : Result Accepted Refused) → IfOk result (λ a. IsAcceptedText text a.name a.functions a.clauses) → IfErr result (IsTextRefusal text) → IsNotRead text → length text ≤ text_limit → IsErrOf result R.NotBuilt ⊎ IsErrOf result R.NoMemory
-unread_is_refused text (Ok a) accepted is (tokens, lexed, none) short = absurd (none accepted.safe.tree (one_lexing text (tokens_of accepted.safe.tree) tokens accepted.lexed lexed) accepted.flat)
-unread_is_refused text (Err R.NoMemory) accepted is not_read short = inr refl
-unread_is_refused text (Err R.TooLong) accepted is not_read short = absurd (omega arith)
-unread_is_refused text (Err (R.Lex fault)) accepted is (tokens, lexed, none) short = absurd (no_fault text tokens fault lexed is)
-unread_is_refused text (Err R.NotBuilt) accepted is not_read short = inl refl
-unread_is_refused text (Err (R.Types refusal)) accepted is (tokens, lexed, none) short = absurd (none is.0 (one_lexing text (tokens_of is.0) tokens is.1.lexed lexed) is.1.flat)
+pub unbuilt_is_refused : (text : List ℕ) (result : Result Accepted Refused) → IfOk result (λ a. IsAcceptedText text a.name a.functions a.clauses) → IfErr result (IsTextRefusal text) → IsNotBuilt text → length text ≤ text_limit → IsErrOf result R.NotBuilt ⊎ IsErrOf result R.NoMemory
+unbuilt_is_refused text (Ok a) accepted is unbuilt short = absurd (read_built text accepted.safe.tree accepted.lexed accepted.flat unbuilt)
+unbuilt_is_refused text (Err R.NoMemory) accepted is unbuilt short = inr refl
+unbuilt_is_refused text (Err R.TooLong) accepted is unbuilt short = absurd (omega arith)
+unbuilt_is_refused text (Err (R.Lex fault)) accepted is unbuilt short = absurd (no_fault text (module_tokens unbuilt.tree) fault unbuilt.parsed.lexed is)
+unbuilt_is_refused text (Err (R.Parse fault)) accepted is unbuilt short = absurd (refusal_none text unbuilt.tree fault unbuilt.parsed is)
+unbuilt_is_refused text (Err R.NotBuilt) accepted is unbuilt short = inl refl
+unbuilt_is_refused text (Err (R.Types refusal)) accepted is unbuilt short = absurd (read_built text is.0 is.1.lexed is.1.flat unbuilt)
+
+pub no_module_is_refused : (text : List ℕ) (result : Result Accepted Refused) → IfOk result (λ a. IsAcceptedText text a.name a.functions a.clauses) → IfErr result (IsTextRefusal text) → HasNoModule text → length text ≤ text_limit → IsNoModuleAnswer result
+no_module_is_refused text (Ok a) accepted is none short = none accepted.safe.tree (read_parsed text accepted.safe.tree accepted.lexed accepted.flat)
+no_module_is_refused text (Err R.NoMemory) accepted is none short = tt
+no_module_is_refused text (Err R.TooLong) accepted is none short = absurd (omega arith)
+no_module_is_refused text (Err (R.Lex fault)) accepted is none short = tt
+no_module_is_refused text (Err (R.Parse fault)) accepted is none short = tt
+no_module_is_refused text (Err R.NotBuilt) accepted is none short = none is.tree is.parsed
+no_module_is_refused text (Err (R.Types refusal)) accepted is none short = none is.0 (read_parsed text is.0 is.1.lexed is.1.flat)
 
 -- ---- what was judged is what is named
 
@@ -150,12 +220,20 @@ completes status words held before after right small read write usage judges =
     let j : Judges status words held before after = judges below not_two in
     sym j.judged.status_is ∙ accepted_verdict right.text right.right j.judged.verdict right.named.short (judged_text status words held before after right.text right.named j))
 
--- a text whose tokens are those of no flat module isn't built yet
+-- a text without a module is refused
 pub refuses : (status : ℕ) (words : List (List ℕ)) (held : Option Holdings) (before after : Option (List ℕ)) → NamesNoModule words held → status ≤ 6
-    → (status ≡ 4 → ⊥) → (status ≡ 5 → ⊥) → (status ≡ 2 → ⊥) → (status < 4 → status ≢ 2 → Judges status words held before after)
-    → ((status ≡ 3) × Puts before after (report_text V.NotBuilt)) ⊎ (status ≡ 6)
+    → (status ≡ 4 → ⊥) → (status ≡ 5 → ⊥) → (status ≡ 2 → ⊥) → (status < 4 → status ≢ 2 → Judges status words held before after) → (status ≡ 3) ⊎ (status ≡ 6)
 refuses status words held before after none small read write usage judges =
     few status small read write usage (λ below not_two.
     let j : Judges status words held before after = judges below not_two in
-    let is : j.judged.verdict ≡ V.NotBuilt = not_read_verdict none.text j.judged.verdict none.named.short none.not_read (judged_text status words held before after none.text none.named j) in
+    sym j.judged.status_is ∙ no_module_verdict none.text j.judged.verdict none.none (judged_text status words held before after none.text none.named j))
+
+-- a module that isn't flat isn't built yet
+pub not_yet : (status : ℕ) (words : List (List ℕ)) (held : Option Holdings) (before after : Option (List ℕ)) → NamesNotBuilt words held → status ≤ 6
+    → (status ≡ 4 → ⊥) → (status ≡ 5 → ⊥) → (status ≡ 2 → ⊥) → (status < 4 → status ≢ 2 → Judges status words held before after)
+    → ((status ≡ 3) × Puts before after (report_text V.NotBuilt)) ⊎ (status ≡ 6)
+not_yet status words held before after unbuilt small read write usage judges =
+    few status small read write usage (λ below not_two.
+    let j : Judges status words held before after = judges below not_two in
+    let is : j.judged.verdict ≡ V.NotBuilt = unbuilt_verdict unbuilt.text j.judged.verdict unbuilt.named.short unbuilt.not_built (judged_text status words held before after unbuilt.text unbuilt.named j) in
     (sym j.judged.status_is ∙ ap (λ (v : Verdict). verdict_status v) is, subst (λ (v : Verdict). Puts before after (report_text v)) is j.judged.written))

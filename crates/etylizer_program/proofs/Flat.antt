@@ -1,4 +1,4 @@
--- Each spec of a well-formed module has one clause, in the part of the grammar that is written so far.
+-- Each spec of a flat module has one clause.
 use Rattle.std.proofs.Common.{◌≡◌, List, [], ◌∷◌, length, refl, arith}
 use Rattle.erl_tree.specs.Lists.{Every}
 use Rattle.erl_tree.specs.declared.token.Place.{Place}
@@ -7,7 +7,7 @@ use Rattle.erl_tree.specs.declared.form.SpecClauseKind.{SpecClauseKind}
 use Rattle.erl_tree.specs.declared.form.TreeForm.{TreeForm}
 use Rattle.erl_tree.specs.declared.form.TreeForm.TheVariants as F
 use Rattle.erl_tree.specs.declared.form.Module.{Module}
-use Rattle.erl_tree.specs.Grammar.{IsWellFormed, IsForm, is_module_layer, is_spec_layer}
+use Rattle.flat_modules.specs.Grammar.{IsWellFormed, IsForm, is_module_layer, is_spec_layer}
 use Rattle.erl_runs.specs.Specs.{specs_in}
 use Rattle.etylizer_program.specs.Check.{clauses_in, spec_clause_count}
 

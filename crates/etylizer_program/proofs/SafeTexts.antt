@@ -3,18 +3,18 @@ use Rattle.std.proofs.Common.{◌≡◌, refl}
 use Rattle.std.specs.Prelude.{codes}
 use Rattle.type_terms.specs.Definitions.{given_definitions}
 use Rattle.erl_tree.specs.SmallText.{small_text, small_module}
+use Rattle.erl_tree.specs.declared.form.Module.{Module}
+use Rattle.erl_tree.proofs.TextExamples.{dollar_spells_nothing}
+use Rattle.erl_grammar.specs.FormSpelling.{module_tokens}
+use Rattle.erl_grammar.specs.Texts.{SpellsModule}
 use Rattle.erl_runs.specs.Specs.{specs_of}
-use Rattle.erl_tree.specs.Grammar.{SpellsModule}
-use Rattle.erl_tree.specs.Spelling.{tokens_of}
 use Rattle.erl_runs.specs.Readable.{IsReadable}
 use Rattle.erl_runs.specs.Safety.{IsSafe, IsSafeText}
-use Rattle.erl_tree.specs.declared.form.Module.{Module}
-use Rattle.erl_tree.proofs.TextExamples.{small_spelled, dollar_spells_nothing}
-use Rattle.erl_parser.proofs.ModuleLaws.{one_module}
-use Rattle.erl_parser.proofs.TextLaws.{same_tokens}
+use Rattle.erl_runs.proofs.TextExamples.{small_module_spelled}
+use Rattle.erl_parser.proofs.TextLaws.{one_module}
 
 only_small : (other : Module) → SpellsModule small_text other → other ≡ small_module
-only_small other s = one_module (tokens_of small_module) other small_module s.well_formed small_spelled.well_formed (same_tokens small_text (tokens_of small_module) other small_spelled.tokens s) refl
+only_small other s = one_module small_text other small_module s small_module_spelled
 
 small_readable : IsReadable small_module
 unfolding specs_of
@@ -24,7 +24,7 @@ small_is_safe : IsSafe small_module (specs_of small_module) given_definitions
 small_is_safe outside f arrow i args steps among = absurd among
 
 pub safe_text : IsSafeText small_text
-safe_text = record { tree = small_module; spelled = small_spelled; only = only_small; readable = small_readable; safe = small_is_safe }
+safe_text = record { tree = small_module; spelled = small_module_spelled; only = only_small; readable = small_readable; safe = small_is_safe }
 
 pub dollar_not_safe : IsSafeText (codes "$") → ⊥
-dollar_not_safe s = dollar_spells_nothing (tokens_of s.tree) s.spelled.tokens
+dollar_not_safe s = dollar_spells_nothing (module_tokens s.tree) s.spelled.tokens

@@ -1,5 +1,5 @@
 -- From what is said of a module to what is said of its text.
-use Rattle.std.proofs.Common.{◌≡◌, ◌∙◌, ◌<◌, ℕ, List, length, Result, Ok, Err, IfOk, true, refl, subst, sym}
+use Rattle.std.proofs.Common.{◌≡◌, ◌∙◌, ◌<◌, ℕ, List, length, Result, Ok, Err, IfOk, IsErrOf, true, refl, subst, sym}
 use Rattle.type_terms.specs.Definitions.{given_definitions}
 use Rattle.type_terms.specs.declared.list.NoMemory.{NoMemory}
 use Rattle.erl_tree.specs.declared.form.Module.{Module}
@@ -9,13 +9,21 @@ use Rattle.erl_tree.specs.Functions.{functions_in, functions_of}
 use Rattle.erl_runs.specs.Specs.{specs_of, specs_in}
 use Rattle.erl_tree.specs.declared.token.Placed.{Placed}
 use Rattle.erl_tree.specs.Lexis.{SpellsTokens}
-use Rattle.erl_tree.specs.Spelling.{tokens_of}
-use Rattle.erl_tree.specs.Grammar.{IsWellFormed}
+use Rattle.erl_tree.specs.Limits.{IsInLimit}
+use Rattle.erl_tree.specs.Lists.{Every, Among}
+use Rattle.erl_grammar.specs.FormSpelling.{module_tokens}
+use Rattle.erl_grammar.specs.FormGrammar.{IsModule}
+use Rattle.erl_grammar.specs.FormNesting.{IsModuleWithin, module_deep}
+use Rattle.erl_grammar.specs.Nesting.{nesting_limit}
+use Rattle.erl_grammar.specs.Texts.{SpellsModule, HasIntegersInLimit}
+use Rattle.flat_modules.proofs.FlatLaws.{flat-formed}
 use Rattle.erl_tree.specs.Profile.{IsLexed}
 use Rattle.erl_tree.proofs.Lexed.{lexed_is_spelled}
-use Rattle.erl_parser.specs.declared.fault.FirstFault.{FirstFault}
-use Rattle.erl_parser.proofs.TextLaws.{same_tokens}
-use Rattle.erl_runs.specs.Readable.{IsFlatModule}
+use Rattle.token_readers.specs.declared.fault.ParseFault.{ParseFault}
+use Rattle.token_readers.specs.declared.fault.ParseFault.TheVariants as P
+use Rattle.token_readers.specs.Outside.{HasOutside}
+use Rattle.erl_parser.proofs.TextLaws.{one_module, lexed_in_limit}
+use Rattle.flat_modules.specs.FlatModules.{IsFlatModule}
 use Rattle.erl_runs.specs.Safety.{IsSafe, IsSafeText}
 use Rattle.cert_checker.specs.Failures.{MeetsConstraints, ShowsFirstFailure}
 use Rattle.cert_checker.specs.declared.refusal.FirstRefusal.{FirstRefusal}
@@ -24,14 +32,14 @@ use Rattle.etylizer_program.specs.declared.check.Refused.{Refused}
 use Rattle.cert_checker.specs.declared.refusal.Shown.{Shown}
 use Rattle.etylizer_program.specs.declared.report.Verdict.{Verdict}
 use Rattle.etylizer_program.specs.declared.report.Verdict.TheVariants as V
-use Rattle.etylizer_program.specs.Check.{text_limit, IsReadAs, IsAcceptedModule, refused_as, IsAcceptedText, IsModuleVerdict, IsTextVerdict, IsTextRefusal, IsRightVerdict}
+use Rattle.etylizer_program.specs.Check.{text_limit, IsReadAs, IsParsedAs, IsAcceptedModule, refused_as, refused_by_parser, IsAcceptedText, IsModuleVerdict, IsTextVerdict, IsTextRefusal, IsRightVerdict}
 use Rattle.etylizer_program.proofs.Flat.{clauses_counted_by_specs}
 
 -- the summary, counted by forms
 pub accepted_module : (m : Module) (name : List ℕ) (functions clauses : ℕ) → IsFlatModule m → MeetsConstraints m → IsSafe m (specs_of m) given_definitions
     → name ≡ m.name → functions ≡ length (functions_in m.forms) → clauses ≡ length (specs_in m.forms) → IsAcceptedModule m name functions clauses
 accepted_module m name functions clauses flat meets safe named functions_are clauses_are =
-    record { meets = meets; safe = safe; summary = record { named = named; functions_counted = functions_are; clauses_counted = clauses_are ∙ sym (clauses_counted_by_specs m flat.well_formed) } }
+    record { meets = meets; safe = safe; summary = record { named = named; functions_counted = functions_are; clauses_counted = clauses_are ∙ sym (clauses_counted_by_specs m (flat-formed m flat)) } }
 
 abbrev safe_text : (text : List ℕ) (m : Module) → IsReadAs text m → IsSafe m (specs_of m) given_definitions → IsSafeText text
 safe_text text m read safe = record { tree = m; spelled = read.spelled; only = read.only; readable = read.flat.readable; safe = safe }
@@ -76,19 +84,49 @@ text_refused text m refusal refused is read shows = subst (λ (r : Refused). IsT
     right F.NoMemory shows = tt
     right (F.Failed function place kind shown) shows = (m, read, shows)
 
--- ---- texts that were lexed
+-- ---- texts that were parsed
 
--- a text is read as the module whose tokens it was lexed as
-pub read_as : (text : List ℕ) (tokens : List Placed) (m : Module) → IsLexed text tokens → tokens_of m ≡ tokens → IsFlatModule m → ((other : Module) → IsWellFormed other → tokens_of other ≡ tokens → other ≡ m) → IsReadAs text m
-read_as text tokens m lexed same flat only = record {
-  lexed = subst (λ (ts : List Placed). IsLexed text ts) (sym same) lexed;
-  spelled = record { tokens = subst (λ (ts : List Placed). SpellsTokens text ts) (sym same) (lexed_is_spelled text tokens lexed); well_formed = flat.well_formed };
-  only = λ other s. only other s.well_formed (same_tokens text tokens other (lexed_is_spelled text tokens lexed) s);
+pub spells : (text : List ℕ) (m : Module) → IsLexed text (module_tokens m) → IsModule m → SpellsModule text m
+spells text m lexed w = record { tokens = lexed_is_spelled text (module_tokens m) lexed; well_formed = w }
+
+-- a text is read as the flat module whose tokens it was lexed as
+pub read_as : (text : List ℕ) (m : Module) → IsLexed text (module_tokens m) → IsFlatModule m → IsReadAs text m
+read_as text m lexed flat = record {
+  lexed = lexed;
+  spelled = spells text m lexed flat.well_formed;
+  only = λ other s. one_module text other m s (spells text m lexed flat.well_formed);
   flat = flat;
 }
 
--- the module that was read of the tokens is the one that the text is read as
-pub text_read : (text : List ℕ) (tokens : List Placed) (r : Result Module FirstFault) → IsLexed text tokens → IfOk r (λ m. tokens_of m ≡ tokens) → IfOk r (λ m. IsFlatModule m)
-    → IfOk r (λ m. (other : Module) → IsWellFormed other → tokens_of other ≡ tokens → other ≡ m) → IfOk r (IsReadAs text)
-text_read text tokens (Ok m) lexed same flat only = read_as text tokens m lexed same flat only
-text_read text tokens (Err fault) lexed same flat only = tt
+-- the tokens of a module that a text was parsed as
+pub lexed_as : (text : List ℕ) (tokens : List Placed) (m : Module) → IsLexed text tokens → module_tokens m ≡ tokens → IsLexed text (module_tokens m)
+lexed_as text tokens m lexed same = subst (λ (ts : List Placed). IsLexed text ts) (sym same) lexed
+
+-- a text was parsed as the module that the parser gives for its tokens
+pub parsed_as : (text : List ℕ) (tokens : List Placed) (m : Module) → IsLexed text tokens → IsModule m × IsModuleWithin nesting_limit m × (module_tokens m ≡ tokens) → IsParsedAs text m
+parsed_as text tokens m lexed found = record { lexed = lexed_as text tokens m lexed found.2; well_formed = found.0; within = found.1 }
+
+-- the parser refuses the tokens with this fault
+abbrev pub refuses_with : ParseFault → Result Module ParseFault
+refuses_with fault = Err fault
+
+-- a refusal of the parser is right of the text
+pub tokens_refused : (text : List ℕ) (tokens : List Placed) (fault : ParseFault) (refused : Refused) → refused ≡ refused_by_parser fault → IsLexed text tokens
+    → ((p : Place) → IsErrOf (refuses_with fault) (P.TooDeep p) → (m : Module) → IsModule m → module_tokens m ≡ tokens → Among p (module_deep m nesting_limit))
+    → ((p : Place) → IsErrOf (refuses_with fault) (P.Unexpected p) → (m : Module) → IsModule m → module_tokens m ≡ tokens → ⊥)
+    → ((p : Place) (form : List ℕ) → IsErrOf (refuses_with fault) (P.OutOfProfile p form) → HasOutside tokens p form × ((m : Module) → IsModule m → module_tokens m ≡ tokens → ⊥))
+    → IsTextRefusal text refused
+tokens_refused text tokens fault refused is lexed deep unexpected outside = subst (λ (r : Refused). IsTextRefusal text r) (sym is) (right fault deep unexpected outside)
+  where
+    right : (fault : ParseFault)
+        → ((p : Place) → IsErrOf (refuses_with fault) (P.TooDeep p) → (m : Module) → IsModule m → module_tokens m ≡ tokens → Among p (module_deep m nesting_limit))
+        → ((p : Place) → IsErrOf (refuses_with fault) (P.Unexpected p) → (m : Module) → IsModule m → module_tokens m ≡ tokens → ⊥)
+        → ((p : Place) (form : List ℕ) → IsErrOf (refuses_with fault) (P.OutOfProfile p form) → HasOutside tokens p form × ((m : Module) → IsModule m → module_tokens m ≡ tokens → ⊥))
+        → IsTextRefusal text (refused_by_parser fault)
+    right P.NoMemory d u o = tt
+    right (P.TooDeep p) d u o = record { tokens = tokens; lexed = lexed; deep = d p refl }
+    right (P.Unexpected p) d u o = record { tokens = tokens; spells_none = record { lexed = lexed; none = u p refl } }
+    right (P.OutOfProfile p form) d u o = record { tokens = tokens; spells_none = record { lexed = lexed; none = (o p form refl).1 }; stands = (o p form refl).0 }
+
+pub limits : (text : List ℕ) (m : Module) → IsLexed text (module_tokens m) → HasIntegersInLimit m
+limits text m lexed = lexed_in_limit text (module_tokens m) lexed

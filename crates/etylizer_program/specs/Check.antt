@@ -1,5 +1,5 @@
 -- What the program says of a module's text.
-use Rattle.std.specs.Prelude.{◌≡◌, ◌≢◌, ◌<◌, ◌+◌, ◌↔◌, ℕ, List, [], ◌∷◌, length, slice_get, Some}
+use Rattle.std.specs.Prelude.{◌≡◌, ◌≢◌, ◌⊎◌, ◌<◌, ◌+◌, ◌↔◌, ℕ, List, [], ◌∷◌, length, slice_get, Some, Result, Ok, Err}
 use Rattle.std.specs.Option.{option_map}
 use Rattle.type_terms.specs.Definitions.{given_definitions}
 use Rattle.type_terms.specs.declared.spec.Kind.{Kind}
@@ -11,26 +11,33 @@ use Rattle.erl_tree.specs.declared.form.Module.{Module}
 use Rattle.erl_tree.specs.Functions.{functions_of, clauses_arity}
 use Rattle.erl_runs.specs.Specs.{specs_of, specs_in}
 use Rattle.erl_tree.specs.declared.token.Placed.{Placed}
-use Rattle.erl_tree.specs.Grammar.{SpellsModule}
-use Rattle.erl_tree.specs.Spelling.{tokens_of}
+use Rattle.erl_grammar.specs.FormSpelling.{module_tokens}
+use Rattle.erl_grammar.specs.FormGrammar.{IsModule}
+use Rattle.erl_grammar.specs.FormNesting.{module_deep, IsModuleWithin}
+use Rattle.erl_grammar.specs.Nesting.{nesting_limit}
+use Rattle.erl_grammar.specs.Texts.{SpellsModule}
+use Rattle.token_readers.specs.declared.fault.ParseFault.{ParseFault}
+use Rattle.token_readers.specs.declared.fault.ParseFault.TheVariants as P
+use Rattle.token_readers.specs.Outside.{HasOutside}
 use Rattle.erl_tree.specs.Profile.{IsLexed}
 use Rattle.erl_lexer.specs.declared.LexFault.{LexFault}
 use Rattle.erl_lexer.specs.declared.LexFault.TheVariants as L
 use Rattle.erl_lexer.specs.Faults.{IsFault}
-use Rattle.erl_tree.specs.Lists.{Every}
-use Rattle.erl_runs.specs.Readable.{IsFlatModule}
+use Rattle.erl_tree.specs.Lists.{Every, Among}
+use Rattle.flat_modules.specs.FlatModules.{IsFlatModule}
 use Rattle.erl_runs.specs.Safety.{IsSafe, IsSafeText}
 use Rattle.cert_checker.specs.declared.refusal.Shown.{Shown}
 use Rattle.cert_checker.specs.declared.refusal.FirstRefusal.{FirstRefusal}
 use Rattle.cert_checker.specs.declared.refusal.FirstRefusal.TheVariants.{NoMemory as NoMemoryToCheck, Failed as FailedConstraint}
 use Rattle.cert_checker.specs.Constraints.{Test, FindsFits, Holds, owed_of}
 use Rattle.cert_checker.specs.Failures.{MeetsConstraints, ShowsFirstFailure}
+use Rattle.etylizer_program.specs.declared.check.Accepted.{Accepted as AcceptedText}
 use Rattle.etylizer_program.specs.declared.check.Refused.{Refused}
-use Rattle.etylizer_program.specs.declared.check.Refused.TheVariants.{NoMemory as NoMemoryForText, TooLong as TooLongText, Lex as LexText, NotBuilt as NotBuiltText, Types}
+use Rattle.etylizer_program.specs.declared.check.Refused.TheVariants.{NoMemory as NoMemoryForText, TooLong as TooLongText, Lex as LexText, Parse as ParseText, NotBuilt as NotBuiltText, Types}
 use Rattle.etylizer_program.specs.declared.report.Verdict.{Verdict}
 use Rattle.etylizer_program.specs.declared.report.Verdict.TheVariants.{Accepted, Failed, NotText, NotUtf8, TooLong, NotBuilt, Usage}
 use Rattle.etylizer_program.specs.declared.report.Words.{Words}
-use Rattle.etylizer_program.specs.declared.report.Words.TheVariants.{BadToken as BadTokenWords, BadEscape as BadEscapeWords, NumberTooWide as NumberTooWideWords, OutOfProfile as OutOfProfileWords}
+use Rattle.etylizer_program.specs.declared.report.Words.TheVariants as W
 
 -- the greatest number of bytes of a module's text
 abbrev pub text_limit : ℕ
@@ -38,19 +45,62 @@ text_limit = 1048576
 
 -- the bytes are lexed as this module's tokens and spell no other one, and it is flat
 pub record IsReadAs (text : List ℕ) (m : Module) : Type 0 where
-  pub lexed : IsLexed text (tokens_of m)
+  pub lexed : IsLexed text (module_tokens m)
   pub spelled : SpellsModule text m
   pub only : (other : Module) → SpellsModule text other → other ≡ m
   pub flat : IsFlatModule m
 
--- the bytes are lexed as tokens that are those of no flat module
-abbrev pub IsNotRead : List ℕ → Type 0
-IsNotRead text = (tokens : List Placed) × IsLexed text tokens × ((m : Module) → tokens_of m ≡ tokens → IsFlatModule m → ⊥)
+-- ---- texts without a flat module
+
+-- the bytes are lexed as these tokens, and no well-formed module has them
+pub record SpellsNone (text : List ℕ) (tokens : List Placed) : Type 0 where
+  pub lexed : IsLexed text tokens
+  pub none : (m : Module) → IsModule m → module_tokens m ≡ tokens → ⊥
+
+-- the bytes are lexed as tokens of no well-formed module
+pub record IsUnexpected (text : List ℕ) : Type 0 where
+  pub tokens : List Placed
+  pub spells_none : SpellsNone text tokens
+
+-- the same, and a form of this name, which is outside of the profile, begins at the place
+pub record IsOutOfProfile (text : List ℕ) (place : Place) (form : List ℕ) : Type 0 where
+  pub tokens : List Placed
+  pub spells_none : SpellsNone text tokens
+  pub stands : HasOutside tokens place form
+
+-- the bytes are lexed, and in every well-formed module with their tokens a node that is nested too deep begins at the place
+pub record IsTooDeep (text : List ℕ) (place : Place) : Type 0 where
+  pub tokens : List Placed
+  pub lexed : IsLexed text tokens
+  pub deep : (m : Module) → IsModule m → module_tokens m ≡ tokens → Among place (module_deep m nesting_limit)
+
+-- why the parser refuses the tokens of a text
+abbrev pub IsParseRefusal : List ℕ → ParseFault → Type 0
+IsParseRefusal text P.NoMemory = ⊥
+IsParseRefusal text (P.OutOfProfile place form) = IsOutOfProfile text place form
+IsParseRefusal text (P.Unexpected place) = IsUnexpected text
+IsParseRefusal text (P.TooDeep place) = IsTooDeep text place
+
+-- the bytes are lexed as the tokens of a well-formed module, nested within the limit
+pub record IsParsedAs (text : List ℕ) (m : Module) : Type 0 where
+  pub lexed : IsLexed text (module_tokens m)
+  pub well_formed : IsModule m
+  pub within : IsModuleWithin nesting_limit m
+
+-- there is no such module: the bytes aren't lexed, or they are lexed as tokens of no well-formed module, or of one that is nested too deep
+abbrev pub HasNoModule : List ℕ → Type 0
+HasNoModule text = (m : Module) → IsParsedAs text m → ⊥
+
+-- there is such a module, and it isn't flat
+pub record IsNotBuilt (text : List ℕ) : Type 0 where
+  pub tree : Module
+  pub parsed : IsParsedAs text tree
+  pub not_flat : IsFlatModule tree → ⊥
 
 -- the bytes are lexed as the tokens of a flat module all of whose constraints hold, with some test of arguments that finds what fits
 pub record IsRightText (text : List ℕ) : Type 0 where
   pub tree : Module
-  pub lexed : IsLexed text (tokens_of tree)
+  pub lexed : IsLexed text (module_tokens tree)
   pub flat : IsFlatModule tree
   pub fits : Test
   pub finds_fits : FindsFits fits
@@ -86,7 +136,7 @@ pub record IsAcceptedModule (m : Module) (name : List ℕ) (functions clauses : 
 -- the text is a safe text and lexed as its module's tokens, the module is flat and its constraints hold, and this is the module's summary
 pub record IsAcceptedText (text name : List ℕ) (functions clauses : ℕ) : Type 0 where
   pub safe : IsSafeText text
-  pub lexed : IsLexed text (tokens_of safe.tree)
+  pub lexed : IsLexed text (module_tokens safe.tree)
   pub flat : IsFlatModule safe.tree
   pub meets : MeetsConstraints safe.tree
   pub summary : IsSummary safe.tree name functions clauses
@@ -108,13 +158,29 @@ abbrev pub refused_as : FirstRefusal → Refused
 refused_as NoMemoryToCheck = NoMemoryForText
 refused_as (FailedConstraint function place kind shown) = Types (FailedConstraint function place kind shown)
 
+-- why a text is refused whose tokens are refused
+abbrev pub refused_by_parser : ParseFault → Refused
+refused_by_parser P.NoMemory = NoMemoryForText
+refused_by_parser (P.OutOfProfile place form) = ParseText (P.OutOfProfile place form)
+refused_by_parser (P.Unexpected place) = ParseText (P.Unexpected place)
+refused_by_parser (P.TooDeep place) = ParseText (P.TooDeep place)
+
 -- why a text may be refused
 abbrev pub IsTextRefusal : List ℕ → Refused → Type 0
 IsTextRefusal text NoMemoryForText = Unit {0}
 IsTextRefusal text TooLongText = text_limit < length text
-IsTextRefusal text NotBuiltText = IsNotRead text
+IsTextRefusal text NotBuiltText = IsNotBuilt text
 IsTextRefusal text (LexText fault) = IsFirstFault text fault
+IsTextRefusal text (ParseText fault) = IsParseRefusal text fault
 IsTextRefusal text (Types refusal) = (m : Module) × IsReadAs text m × IsFailure m refusal
+
+-- a text without a module is refused by the lexer or the parser, unless memory runs out
+abbrev pub IsNoModuleAnswer : Result AcceptedText Refused → Type 0
+IsNoModuleAnswer (Ok a) = ⊥
+IsNoModuleAnswer (Err NoMemoryForText) = Unit {0}
+IsNoModuleAnswer (Err (LexText fault)) = Unit {0}
+IsNoModuleAnswer (Err (ParseText fault)) = Unit {0}
+IsNoModuleAnswer (Err _) = ⊥
 
 -- a function's name and arity
 abbrev pub name_and_arity : Function → List ℕ × ℕ
@@ -130,12 +196,14 @@ pub record IsFailedModule (m : Module) (name function : List ℕ) (arity clause 
 
 -- ---- verdicts
 
--- the fault of the lexer that stands at a place, in words
-abbrev pub fault_at : Place → Words → LexFault
-fault_at place BadTokenWords = L.BadToken place
-fault_at place BadEscapeWords = L.BadEscape place
-fault_at place NumberTooWideWords = L.WideNumber place
-fault_at place (OutOfProfileWords form) = L.OutOfProfile place form
+-- why a text within the limit has no module, by the words of its refusal and the place
+abbrev pub IsNoText : List ℕ → Place → Words → Type 0
+IsNoText text place W.BadToken = IsFirstFault text (L.BadToken place)
+IsNoText text place W.BadEscape = IsFirstFault text (L.BadEscape place)
+IsNoText text place W.NumberTooWide = IsFirstFault text (L.WideNumber place)
+IsNoText text place (W.OutOfProfile form) = IsFirstFault text (L.OutOfProfile place form) ⊎ IsOutOfProfile text place form
+IsNoText text place W.Unexpected = IsUnexpected text
+IsNoText text place W.TooDeep = IsTooDeep text place
 
 -- what a verdict says of a module that was read
 abbrev pub IsModuleVerdict : Module → Verdict → Type 0
@@ -151,10 +219,10 @@ IsModuleVerdict m Usage = ⊥
 abbrev pub IsTextVerdict : List ℕ → Verdict → Type 0
 IsTextVerdict text (Accepted name functions clauses) = IsAcceptedText text name functions clauses
 IsTextVerdict text (Failed name function arity clause place kind shown) = (m : Module) × IsReadAs text m × IsFailedModule m name function arity clause place kind shown
-IsTextVerdict text (NotText place words) = IsFirstFault text (fault_at place words)
+IsTextVerdict text (NotText place words) = IsNoText text place words
 IsTextVerdict text (NotUtf8 at) = IsFirstFault text (L.NotUtf8 at)
 IsTextVerdict text TooLong = text_limit < length text
-IsTextVerdict text NotBuilt = IsNotRead text
+IsTextVerdict text NotBuilt = IsNotBuilt text
 IsTextVerdict text Usage = ⊥
 
 -- the verdict is right, and says that the text is too long exactly where it is

@@ -13,7 +13,7 @@ use Rattle.cert_checker.specs.declared.refusal.Shown.TheVariants.{One, Missing}
 use Rattle.etylizer_program.specs.declared.report.Verdict.{Verdict}
 use Rattle.etylizer_program.specs.declared.report.Verdict.TheVariants.{Accepted, Failed, NotText, NotUtf8, TooLong, NotBuilt, Usage}
 use Rattle.etylizer_program.specs.declared.report.Words.{Words}
-use Rattle.etylizer_program.specs.declared.report.Words.TheVariants.{BadToken, BadEscape, NumberTooWide, OutOfProfile}
+use Rattle.etylizer_program.specs.declared.report.Words.TheVariants.{BadToken, BadEscape, NumberTooWide, OutOfProfile, Unexpected, TooDeep}
 
 -- whether a small letter comes first
 abbrev pub begins_lower : List ℕ → Bool
@@ -72,6 +72,8 @@ words_text BadToken = codes "bad token"
 words_text BadEscape = codes "bad escape"
 words_text NumberTooWide = codes "number too wide"
 words_text (OutOfProfile form) = codes "out of profile: " ++ form
+words_text Unexpected = codes "unexpected"
+words_text TooDeep = codes "nested too deep"
 
 -- line:column
 abbrev pub place_text : Place → List ℕ

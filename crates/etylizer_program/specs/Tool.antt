@@ -1,7 +1,7 @@
 -- What the program claims: of a text that it accepts, and of its output at each status.
 use Rattle.std.specs.Prelude.{◌≡◌, ◌≢◌, ◌⊎◌, ◌≤◌, ℕ, List, [], ◌∷◌, length, Option, Some, None, codes}
 use Rattle.std.specs.Option.{ForSome}
-use Rattle.erl_runs.specs.Readable.{IsFlatModule}
+use Rattle.flat_modules.specs.FlatModules.{IsFlatModule}
 use Rattle.erl_runs.specs.Safety.{IsSafeText}
 use Rattle.cert_checker.specs.Failures.{MeetsConstraints}
 use Rattle.etylizer_program.specs.declared.report.Verdict.{Verdict}
@@ -9,7 +9,7 @@ use Rattle.etylizer_program.specs.declared.report.Verdict.TheVariants.{Accepted,
 use Rattle.etylizer_program.specs.Outside.{Holdings, IsHeld, Puts, PutsBeginning}
 use Rattle.etylizer_program.specs.Commands.{command_of}
 use Rattle.etylizer_program.specs.Report.{report_text}
-use Rattle.etylizer_program.specs.Check.{text_limit, function_count, spec_clause_count, IsNotRead, IsRightText, IsRightVerdict}
+use Rattle.etylizer_program.specs.Check.{text_limit, function_count, spec_clause_count, HasNoModule, IsNotBuilt, IsRightText, IsRightVerdict}
 
 -- the words are `check FILE`
 abbrev pub IsCheckOf : List (List ℕ) → (file : List ℕ) → Type 0
@@ -115,11 +115,17 @@ pub record NamesText (words : List (List ℕ)) (held : Option Holdings) (text : 
   pub holds : files file ≡ Some text
   pub short : length text ≤ text_limit
 
--- the words name a text whose tokens are those of no flat module
+-- the words name a text that isn't lexed as the tokens of a well-formed module nested within the limit
 pub record NamesNoModule (words : List (List ℕ)) (held : Option Holdings) : Type 0 where
   pub text : List ℕ
   pub named : NamesText words held text
-  pub not_read : IsNotRead text
+  pub none : HasNoModule text
+
+-- the words name a text that is lexed as the tokens of such a module, which isn't flat
+pub record NamesNotBuilt (words : List (List ℕ)) (held : Option Holdings) : Type 0 where
+  pub text : List ℕ
+  pub named : NamesText words held text
+  pub not_built : IsNotBuilt text
 
 -- the words name a text whose tokens are those of a flat module all of whose constraints hold
 pub record NamesRightModule (words : List (List ℕ)) (held : Option Holdings) : Type 0 where

@@ -1,17 +1,23 @@
-ghost use Rattle.std.specs.Prelude.{◌≡◌, ◌⊎◌, ◌<◌, ◌≤◌, ◌↔◌, length, IfOk, IfErr, IsOk, IsErrOf};
+ghost use Rattle.std.specs.Prelude.{◌≡◌, ◌⊎◌, ◌<◌, ◌≤◌, ◌↔◌, length, IfOk, IfErr, IsOk, IsErrOf, IsTrue};
 ghost use Rattle.erl_tree.specs.Profile.{IsLexed};
-ghost use Rattle.erl_runs.specs.Readable.{IsFlatModule};
+ghost use Rattle.erl_grammar.specs.FormGrammar.{IsModule};
+ghost use Rattle.erl_grammar.specs.FormNesting.{IsModuleWithin};
+ghost use Rattle.erl_grammar.specs.Nesting.{nesting_limit};
+ghost use Rattle.erl_grammar.specs.Texts.{HasIntegersInLimit};
+ghost use Rattle.flat_modules.specs.FlatModules.{IsFlatModule};
 ghost use Rattle.cert_checker.specs.declared.refusal.FirstRefusal.{FirstRefusal as Failure};
 ghost use Rattle.cert_checker.specs.Failures.{ShowsFirstFailure};
-ghost use Rattle.etylizer_program.specs.Check.{text_limit, IsNotRead, IsRightText, IsReadAs, IsAcceptedModule, IsAcceptedText, IsTextRefusal, refused_as};
+ghost use Rattle.etylizer_program.specs.Check.{text_limit, HasNoModule, IsNotBuilt, IsRightText, IsReadAs, IsParsedAs, IsNoModuleAnswer, refused_by_parser, IsAcceptedModule, IsAcceptedText, IsTextRefusal, refused_as};
 
 use crate::count::{count_functions, count_specs};
 use cert_checker::{FirstRefusal, check_first};
 use erl_lexer::{LexFault, lex};
-use erl_parser::{FirstFault, parse_first};
+use erl_parser::{ParseFault, parse};
+use erl_scope::is_readable;
 use erl_tree::{Module, Placed};
+use flat_modules::is_flat;
 use std::alloc::Global;
-use type_terms::{List, Plain, Text};
+use type_terms::{List, NoMemory, Plain, Text};
 
 /// The greatest number of bytes of a module's text.
 pub const TEXT_LIMIT: u64 = 1048576;
@@ -32,7 +38,9 @@ pub enum Refused {
     TooLong,
     /// It has no tokens within the profile and the limit of integers.
     Lex(LexFault),
-    /// Its tokens are those of no flat module.
+    /// Its tokens are those of no module that is nested at most 256 levels deep.
+    Parse(ParseFault),
+    /// Its module isn't flat.
     NotBuilt,
     /// A constraint of its module fails.
     Types(FirstRefusal),
@@ -54,15 +62,17 @@ impl From<FirstRefusal> for Refused {
 /// # Errors
 ///
 /// `TooLong` exactly where the text has more than `TEXT_LIMIT` bytes, whatever they are. Of a text
-/// within that limit: `Lex` where it has no tokens, with the first fault of the lexer; `NotBuilt`
-/// where it has tokens, which are those of no flat module (`docs/LANGUAGE.md`); `Types` where it
-/// spells a flat module, with the first constraint that fails. `NoMemory` where memory runs out.
+/// within that limit: `Lex` where it has no tokens, with the first fault of the lexer; `Parse` where
+/// its tokens are those of no module of the profile, or of one that is nested too deep; `NotBuilt`
+/// where it spells a module that isn't flat (`docs/LANGUAGE.md`); `Types` where it spells a flat
+/// module, with the first constraint that fails. `NoMemory` where memory runs out.
 pub fn check_text(alloc: Global, text: &[u8]) -> Result<Accepted, Refused>
     ensures safe { IfOk result (λ a. IsAcceptedText text.now a.name a.functions a.clauses) }
     ensures refused { IfErr result (IsTextRefusal text.now) }
     ensures too_long { IsErrOf result Refused.TooLong ↔ (text_limit < length text.now) }
     ensures complete { IsRightText text.now → length text.now ≤ text_limit → IsOk result ⊎ IsErrOf result Refused.NoMemory }
-    ensures not_built { IsNotRead text.now → length text.now ≤ text_limit → IsErrOf result Refused.NotBuilt ⊎ IsErrOf result Refused.NoMemory }
+    ensures not_built { IsNotBuilt text.now → length text.now ≤ text_limit → IsErrOf result Refused.NotBuilt ⊎ IsErrOf result Refused.NoMemory }
+    ensures no_module { HasNoModule text.now → length text.now ≤ text_limit → IsNoModuleAnswer result }
 {
     read_and_check(alloc, text)
 }
@@ -106,11 +116,49 @@ fn read_tokens(alloc: Global, text: &[u8], tokens: &List<Placed>) -> Result<Modu
     ensures short { IsErrOf result Refused.TooLong → ⊥ }
     ensures types { (refusal : Failure) → IsErrOf result (Refused.Types refusal) → ⊥ }
 {
-    match parse_first(alloc, tokens) {
-        Ok(tree) => Ok(tree),
-        Err(FirstFault::NoMemory) => Err(Refused::NoMemory),
-        Err(FirstFault::NotBuilt) => Err(Refused::NotBuilt),
+    match parse(alloc, tokens) {
+        Ok(tree) => read_module(alloc, text, tree),
+        Err(fault) => Err(refused_by(fault)),
     }
+}
+
+/// Why a text is refused whose tokens the parser refuses.
+fn refused_by(fault: ParseFault) -> Refused
+    ensures { result ≡ refused_by_parser fault }
+{
+    match fault {
+        ParseFault::NoMemory => Refused::NoMemory,
+        refused => Refused::Parse(refused),
+    }
+}
+
+/// The module as which a text was parsed, where it is flat.
+fn read_module(alloc: Global, text: &[u8], tree: Module) -> Result<Module, Refused>
+    requires { IsParsedAs text.now tree }
+    ensures read { IfOk result (IsReadAs text.now) }
+    ensures refused { IfErr result (IsTextRefusal text.now) }
+    ensures short { IsErrOf result Refused.TooLong → ⊥ }
+    ensures types { (refusal : Failure) → IsErrOf result (Refused.Types refusal) → ⊥ }
+{
+    match is_flat_module(alloc, &tree) {
+        Ok(true) => Ok(tree),
+        Ok(false) => Err(Refused::NotBuilt),
+        Err(NoMemory) => Err(Refused::NoMemory),
+    }
+}
+
+/// Whether a module that was parsed is flat.
+fn is_flat_module(alloc: Global, tree: &Module) -> Result<bool, NoMemory>
+    requires well_formed { IsModule tree.now }
+    requires within { IsModuleWithin nesting_limit tree.now }
+    requires in_limit { HasIntegersInLimit tree.now }
+    ensures sound { IfOk result (λ answer. IsTrue answer → IsFlatModule tree.now) }
+    ensures complete { IfOk result (λ answer. IsFlatModule tree.now → IsTrue answer) }
+{
+    if !is_flat(tree) {
+        return Ok(false);
+    }
+    is_readable(alloc, tree)
 }
 
 /// Checks a flat module.

@@ -1,14 +1,15 @@
 ghost use Rattle.std.specs.Prelude.{◌≡◌, ◌<◌, ◌≤◌, ℕ, List as Listed, length, IfOk};
 ghost use Rattle.erl_tree.specs.Functions.{functions_of};
-ghost use Rattle.erl_runs.specs.Readable.{IsFlatModule};
+ghost use Rattle.flat_modules.specs.FlatModules.{IsFlatModule};
 ghost use Rattle.cert_checker.specs.Failures.{ShowsFirstFailure};
-ghost use Rattle.etylizer_program.specs.Check.{text_limit, IsFirstFault, IsModuleVerdict, IsRightVerdict};
+ghost use Rattle.etylizer_program.specs.Check.{text_limit, IsFirstFault, IsParseRefusal, IsModuleVerdict, IsRightVerdict};
 
 use crate::check::{Refused, check_module, read_text};
 use crate::count::function_at;
 use crate::report::{Verdict, Words};
 use cert_checker::{FirstRefusal, Shown};
 use erl_lexer::LexFault;
+use erl_parser::ParseFault;
 use erl_tree::{Module, Place};
 use std::alloc::Global;
 use type_terms::{Kind, NoMemory, Plain};
@@ -22,6 +23,7 @@ pub fn judge(alloc: Global, text: &[u8]) -> Result<Verdict, NoMemory>
         Err(Refused::NoMemory) => Err(NoMemory),
         Err(Refused::TooLong) => Ok(Verdict::TooLong),
         Err(Refused::Lex(fault)) => fault_verdict(fault),
+        Err(Refused::Parse(fault)) => parse_verdict(fault),
         Err(Refused::NotBuilt) => Ok(Verdict::NotBuilt),
         Err(Refused::Types(_)) => unreachable!(),
     }
@@ -49,6 +51,27 @@ fn fault_verdict(fault: LexFault) -> Result<Verdict, NoMemory>
         LexFault::BadToken(place) => Ok(Verdict::NotText {
             place,
             words: Words::BadToken,
+        }),
+    }
+}
+
+/// The verdict on a text whose tokens the parser refuses.
+fn parse_verdict(fault: ParseFault) -> Result<Verdict, NoMemory>
+    ensures { IfOk result (λ verdict. (text : Listed ℕ) → IsParseRefusal text fault → length text ≤ text_limit → IsRightVerdict text verdict) }
+{
+    match fault {
+        ParseFault::NoMemory => Err(NoMemory),
+        ParseFault::OutOfProfile(place, form) => Ok(Verdict::NotText {
+            place,
+            words: Words::OutOfProfile(form),
+        }),
+        ParseFault::Unexpected(place) => Ok(Verdict::NotText {
+            place,
+            words: Words::Unexpected,
+        }),
+        ParseFault::TooDeep(place) => Ok(Verdict::NotText {
+            place,
+            words: Words::TooDeep,
         }),
     }
 }

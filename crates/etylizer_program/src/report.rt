@@ -31,8 +31,7 @@ pub enum Verdict {
         kind: Kind,
         shown: Shown,
     },
-    /// The text is UTF-8, within the limit of length, and has no tokens: the first fault of the lexer,
-    /// and where it stands.
+    /// The text is UTF-8, within the limit of length, and no module: why, and where.
     NotText {
         place: Place,
         words: Words,
@@ -44,13 +43,13 @@ pub enum Verdict {
     },
     /// The text is longer than a module may be.
     TooLong,
-    /// The text is within the limit of length and has tokens, which are those of no flat module.
+    /// The text is a module, which isn't flat.
     NotBuilt,
     /// The words are no command.
     Usage,
 }
 
-/// Why a text has no tokens.
+/// Why a text is no module.
 #[derive(Drop)]
 pub enum Words {
     BadToken,
@@ -58,6 +57,10 @@ pub enum Words {
     NumberTooWide,
     /// A form outside of the profile, by its name.
     OutOfProfile(Text),
+    /// The token fits nowhere.
+    Unexpected,
+    /// A node that is nested deeper than 256 levels.
+    TooDeep,
 }
 
 /// The text of a verdict: one line.
@@ -122,6 +125,8 @@ fn push_words(out: &mut Vec<u8>, words: &Words) -> Result<(), AllocError>
         Words::BadEscape => out.extend_from_slice(b"bad escape"),
         Words::NumberTooWide => out.extend_from_slice(b"number too wide"),
         Words::OutOfProfile(form) => push_outside(out, form.as_slice()),
+        Words::Unexpected => out.extend_from_slice(b"unexpected"),
+        Words::TooDeep => out.extend_from_slice(b"nested too deep"),
     }
 }
 

@@ -9,6 +9,7 @@ use crate::report::{Verdict, report};
 use crate::tool::{Status, run_tool};
 use cert_checker::{FirstRefusal, Shown};
 use erl_lexer::LexFault;
+use erl_parser::ParseFault;
 use erl_tree::Place;
 use std::alloc::Global;
 use std::process::Abort;
@@ -68,7 +69,7 @@ fn expect(
 }
 
 /// The lines behind `-module(a).`, the status and the output.
-const MODULES: [(&[u8], Status, &[u8]); 27] = [
+const MODULES: [(&[u8], Status, &[u8]); 28] = [
     (
         b"-spec f(integer()) -> integer().\nf(X) -> X.\n",
         0,
@@ -167,7 +168,8 @@ const MODULES: [(&[u8], Status, &[u8]); 27] = [
     ),
     (b"-spec f('a') -> 16#1f.\nf('a b') -> 31.\n", 3, NOT_BUILT),
     (b"f() -> 1.\n", 3, NOT_BUILT),
-    (b"hello", 3, NOT_BUILT),
+    (b"hello", 3, b"not a module: 2:6: unexpected\n"),
+    (b"f() -> a b.", 3, b"not a module: 2:10: unexpected\n"),
 ];
 
 const NOT_BUILT: &[u8] = b"not a module: not built yet\n";
@@ -190,33 +192,259 @@ fn checks_modules(rt: HostRuntime) -> Result<(), Fail> {
     Ok(())
 }
 
-/// A module whose body is `1` in so many parentheses.
-fn nested(alloc: Global, parentheses: usize) -> Result<Vec<u8>, NoMemory> {
-    let mut text = Vec::from_slice(alloc, b"-module(a).\n-spec f() -> integer().\nf() -> ")?;
-    for _ in 0..parentheses {
-        text.push(b'(')?;
+/// Lines behind `-module(a).`, each with a form that is outside of the profile, its place and its name.
+const OUTSIDE: [(&str, &str); 38] = [
+    ("f() -> 1.5.", "2:8: out of profile: float"),
+    ("f() -> 4 / 2.", "2:10: out of profile: float"),
+    ("f() -> ?X.", "2:8: out of profile: macro"),
+    ("f() -> <<1>>.", "2:8: out of profile: binary"),
+    ("f(P) -> P ! a.", "2:11: out of profile: send"),
+    ("f() -> receive X -> X end.", "2:8: out of profile: receive"),
+    ("f() -> maybe a end.", "2:8: out of profile: maybe"),
+    ("f() -> catch g().", "2:8: out of profile: catch"),
+    ("f(X) -> X band 1.", "2:11: out of profile: bit operator"),
+    ("f(X) -> bnot X.", "2:9: out of profile: bit operator"),
+    ("f(X) -> X -- X.", "2:11: out of profile: list difference"),
+    (
+        "f() -> \"a\" \"b\".",
+        "2:8: out of profile: adjacent strings",
+    ),
+    (
+        "f() -> \"\"\"\na\n\"\"\".",
+        "2:8: out of profile: triple-quoted string",
+    ),
+    ("f() -> ~\"a\".", "2:8: out of profile: sigil"),
+    ("f() -> \u{e9}.", "2:8: out of profile: non-ASCII name"),
+    (
+        "f() -> try a catch error:E:S -> b end.",
+        "2:27: out of profile: stack trace",
+    ),
+    (
+        "f(M) -> #{K => V || K := V <- M}.",
+        "2:18: out of profile: map comprehension",
+    ),
+    (
+        "f(L) -> [X || X <:- L].",
+        "2:17: out of profile: strict generator",
+    ),
+    ("f() -> fun F() -> a end.", "2:8: out of profile: named fun"),
+    (
+        "f() -> lists:map(a, b).",
+        "2:13: out of profile: remote name",
+    ),
+    (
+        "f() -> fun lists:map/2.",
+        "2:17: out of profile: remote name",
+    ),
+    ("-spec a:f() -> b.", "2:8: out of profile: remote name"),
+    ("-type t() :: a:b().", "2:15: out of profile: remote name"),
+    ("-define(X, 1).", "2:1: out of profile: preprocessor"),
+    ("-include(\"a.hrl\").", "2:1: out of profile: preprocessor"),
+    ("-ifdef(X).", "2:1: out of profile: preprocessor"),
+    ("-if(X).", "2:1: out of profile: preprocessor"),
+    ("-else.", "2:1: out of profile: preprocessor"),
+    ("-import(lists, [map/2]).", "2:1: out of profile: import"),
+    ("-nominal t() :: a.", "2:1: out of profile: nominal"),
+    ("f() -> g(X = 1).", "2:12: out of profile: nested match"),
+    ("f() -> #r{_ = 1}.", "2:11: out of profile: record wildcard"),
+    ("f() -> #r.a.", "2:8: out of profile: record index"),
+    ("f(\"a\" ++ X) -> X.", "2:7: out of profile: list pattern"),
+    ("f(#{X := 1}) -> a.", "2:5: out of profile: map key"),
+    (
+        "f(X) -> is_function(X, X).",
+        "2:9: out of profile: built-in",
+    ),
+    ("f(X) when g(X) -> X.", "2:11: out of profile: built-in"),
+    ("f(X) when X(1) -> X.", "2:11: out of profile: built-in"),
+];
+
+#[test]
+fn names_what_is_outside_of_the_profile(rt: HostRuntime) -> Result<(), Fail> {
+    let alloc = rt.alloc();
+    for (line, refusal) in OUTSIDE {
+        let text = format!(in alloc; "-module(a).\n{line}\n")?;
+        let output = format!(in alloc; "not a module: {refusal}\n")?;
+        expect(&rt, alloc, text.as_bytes(), 3, output.as_bytes())?;
     }
-    text.push(b'1')?;
-    for _ in 0..parentheses {
-        text.push(b')')?;
+    Ok(())
+}
+
+/// `-module(a).` and a line: a text, so many times an opening bracket, `a`, as many closing brackets,
+/// and the rest.
+fn nested(
+    alloc: Global,
+    before: &str,
+    brackets: (u8, u8),
+    levels: usize,
+    behind: &str,
+) -> Result<Vec<u8>, NoMemory> {
+    let mut text = Vec::from_slice(alloc, b"-module(a).\n")?;
+    text.extend_from_slice(before.as_bytes())?;
+    for _ in 0..levels {
+        text.push(brackets.0)?;
     }
-    text.extend_from_slice(b".\n")?;
+    text.push(b'a')?;
+    for _ in 0..levels {
+        text.push(brackets.1)?;
+    }
+    text.extend_from_slice(behind.as_bytes())?;
     Ok(text)
 }
+
+/// A text in front of brackets, the brackets, the text behind them, the status and the output with 255
+/// of them, and the output with 256.
+type Nest = (
+    &'static str,
+    (u8, u8),
+    &'static str,
+    Status,
+    &'static [u8],
+    &'static [u8],
+);
+
+/// Expressions, types and patterns in brackets.
+const NESTS: [Nest; 4] = [
+    (
+        "-spec f() -> a.\nf() -> ",
+        (b'(', b')'),
+        ".\n",
+        0,
+        b"accepted a: 1 functions, 1 clauses\n",
+        b"not a module: 3:264: nested too deep\n",
+    ),
+    (
+        "-spec f() -> tuple().\nf() -> ",
+        (b'{', b'}'),
+        ".\n",
+        3,
+        NOT_BUILT,
+        b"not a module: 3:264: nested too deep\n",
+    ),
+    (
+        "-spec f() -> ",
+        (b'[', b']'),
+        ".\nf() -> a.\n",
+        3,
+        NOT_BUILT,
+        b"not a module: 2:270: nested too deep\n",
+    ),
+    (
+        "f(",
+        (b'{', b'}'),
+        ") -> b.\n",
+        3,
+        NOT_BUILT,
+        b"not a module: 2:259: nested too deep\n",
+    ),
+];
 
 #[test]
 fn limits_the_nesting(rt: HostRuntime) -> Result<(), Fail> {
     let alloc = rt.alloc();
-    let deepest = nested(alloc, 255)?;
-    expect(
-        &rt,
-        alloc,
-        &deepest,
-        0,
-        b"accepted a: 1 functions, 1 clauses\n",
-    )?;
-    let deeper = nested(alloc, 256)?;
-    expect(&rt, alloc, &deeper, 3, NOT_BUILT)?;
+    for (before, brackets, behind, status, within, deeper) in NESTS {
+        let text = nested(alloc, before, brackets, 255, behind)?;
+        expect(&rt, alloc, &text, status, within)?;
+        let text = nested(alloc, before, brackets, 256, behind)?;
+        expect(&rt, alloc, &text, 3, deeper)?;
+    }
+    Ok(())
+}
+
+/// `-module(a).` and a function of so many parameters.
+fn with_parameters(alloc: Global, count: usize) -> Result<Vec<u8>, NoMemory> {
+    let mut text = Vec::from_slice(alloc, b"-module(a).\nf(a")?;
+    for _ in 1..count {
+        text.extend_from_slice(b",a")?;
+    }
+    text.extend_from_slice(b") -> b.\n")?;
+    Ok(text)
+}
+
+#[test]
+fn limits_the_parameters(rt: HostRuntime) -> Result<(), Fail> {
+    let alloc = rt.alloc();
+    let most = with_parameters(alloc, 255)?;
+    expect(&rt, alloc, &most, 3, NOT_BUILT)?;
+    let more = with_parameters(alloc, 256)?;
+    let output = b"not a module: 2:513: out of profile: arity\n";
+    expect(&rt, alloc, &more, 3, output)?;
+    Ok(())
+}
+
+/// A module of many forms, of records, types, specs of funs and type variables, maps, guards, `try` and
+/// comprehensions.
+const LEDGER: &str = r#"%% A small shop ledger.
+-module(shop).
+-export([total/1, add/3, insert/2, to_list/1, fold/3, main/1]).
+-vsn("1.0").
+
+-record(item, {name :: atom(), price = 0 :: integer(), count = 1 :: integer()}).
+-type item() :: #item{}.
+-type settings() :: #{currency := atom(), limit => integer()}.
+-type tree(K) :: leaf | {node, tree(K), K, tree(K)}.
+
+-spec total([item()]) -> integer().
+total(Items) ->
+    fold(fun(#item{price = P, count = C}, Sum) -> Sum + P * C end, 0, Items).
+
+-spec add(atom(), integer(), [item()]) -> [item()].
+add(Name, Price, Items) when Price >= 0 ->
+    [#item{name = Name, price = Price} | Items];
+add(_, _, Items) ->
+    Items.
+
+-spec insert(integer(), tree(integer())) -> tree(integer()).
+insert(K, leaf) -> {node, leaf, K, leaf};
+insert(K, {node, L, N, R}) when K < N -> {node, insert(K, L), N, R};
+insert(K, {node, L, N, R}) when K > N -> {node, L, N, insert(K, R)};
+insert(_, T) -> T.
+
+-spec to_list(tree(A)) -> [A].
+to_list(leaf) -> [];
+to_list({node, L, K, R}) -> to_list(L) ++ [K | to_list(R)].
+
+-spec fold(fun((A, B) -> B), B, [A]) -> B.
+fold(_, Acc, []) -> Acc;
+fold(F, Acc, [X | Xs]) -> fold(F, F(X, Acc), Xs).
+
+-spec limit(settings()) -> integer().
+limit(#{limit := L}) -> L;
+limit(#{currency := _}) -> 0.
+
+-spec with_limit(integer(), settings()) -> settings().
+with_limit(L, S) -> S#{limit => L}.
+
+-spec safe_div(integer(), integer()) -> {ok, integer()} | {error, atom()}.
+safe_div(X, Y) ->
+    try X div Y of
+        Q -> {ok, Q}
+    catch
+        error:badarith -> {error, zero};
+        _:_ -> {error, unknown}
+    end.
+
+-spec sign(term()) -> neg | zero | pos | other.
+sign(X) when is_integer(X), X < 0 -> neg;
+sign(0) -> zero;
+sign(X) when is_integer(X) -> pos;
+sign(_) -> other.
+
+-spec prices([item()]) -> [integer()].
+prices(Items) -> [I#item.price || I <- Items, I#item.count > 0].
+
+-spec main(settings()) -> integer().
+main(S) ->
+    Items = add(apple, 3, add(pear, 2, [hd([#item{name = plum}])])),
+    Sum = total(Items),
+    case Sum > limit(S) of
+        true -> limit(S);
+        false -> Sum
+    end.
+"#;
+
+#[test]
+fn reads_a_realistic_module(rt: HostRuntime) -> Result<(), Fail> {
+    expect(&rt, rt.alloc(), LEDGER.as_bytes(), 3, NOT_BUILT)?;
     Ok(())
 }
 
@@ -258,7 +486,9 @@ fn checks_texts(rt: HostRuntime) -> Result<(), Fail> {
     assert!(rt; matches!(&refused, Err(Refused::Types(FirstRefusal::Failed { .. }))));
     let faulty = check_text(alloc, b"a?");
     assert!(rt; matches!(&faulty, Err(Refused::Lex(LexFault::OutOfProfile(_, _)))));
-    let not_built = check_text(alloc, b"hello");
+    let unexpected = check_text(alloc, b"hello");
+    assert!(rt; matches!(&unexpected, Err(Refused::Parse(ParseFault::Unexpected(_)))));
+    let not_built = check_text(alloc, b"-module(a).\nf() -> 1.\n");
     assert!(rt; matches!(&not_built, Err(Refused::NotBuilt)));
     Ok(())
 }

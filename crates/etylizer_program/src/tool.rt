@@ -2,7 +2,7 @@ ghost use Rattle.std.specs.Prelude.{◌≡◌, ◌≢◌, ◌⊎◌, ◌↔◌, 
 ghost use Rattle.etylizer_program.specs.Outside.{IsHeld, Rose, Puts, PutsBeginning};
 ghost use Rattle.etylizer_program.specs.Commands.{command_of};
 ghost use Rattle.etylizer_program.specs.Report.{report_text};
-ghost use Rattle.etylizer_program.specs.Tool.{AcceptsSafeText, Judges, JudgesFile, JudgesText, BreaksOff, BeginsFileReport, BeginsTextReport, HoldsNamedFile, NamesRightModule, NamesNoModule, verdict_status};
+ghost use Rattle.etylizer_program.specs.Tool.{AcceptsSafeText, Judges, JudgesFile, JudgesText, BreaksOff, BeginsFileReport, BeginsTextReport, HoldsNamedFile, NamesRightModule, NamesNoModule, NamesNotBuilt, verdict_status};
 
 use crate::check::TEXT_LIMIT;
 use crate::command::{Command, command_of};
@@ -23,7 +23,7 @@ const REFUSED: Status = 1;
 
 const USAGE: Status = 2;
 
-/// A text that is too long, that has a fault of the lexer, or whose tokens are those of no flat module.
+/// A text that is too long or no module of the profile, or whose module isn't flat.
 const NOT_A_MODULE: Status = 3;
 
 const READ_FAULT: Status = 4;
@@ -48,12 +48,13 @@ pub fn run_tool<F: Files, O: Sink>(
     // A report tells the truth about the file.
     ensures judged { result < 4 → result ≢ 2 → Judges result (map string_bytes words.now.items) (F.held files.old) (O.written out.old) (O.written out.new) }
 
-    // A text within the limit whose tokens are those of a flat module, all of whose constraints hold,
-    // is accepted, and one whose tokens are those of no flat module gets "not built yet", where the
-    // files tell what they hold, and unless the files or the sink fail or memory runs out. A text
-    // with a fault of the lexer has no tokens: `judged` says that its report is that of its fault.
+    // Where the files tell what they hold, and unless the files or the sink fail or memory runs out: a
+    // flat module all of whose constraints hold is accepted; a text that is no module, or whose module
+    // is nested too deep, is refused, `judged` says by which words; and a module that isn't flat gets
+    // "not built yet".
     ensures complete { NamesRightModule (map string_bytes words.now.items) (F.held files.old) → (Rose (F.faults files.old) (F.faults files.new) → ⊥) → (Rose (O.faults out.old) (O.faults out.new) → ⊥) → (result ≡ 0) ⊎ (result ≡ 6) }
-    ensures not_built { NamesNoModule (map string_bytes words.now.items) (F.held files.old) → (Rose (F.faults files.old) (F.faults files.new) → ⊥) → (Rose (O.faults out.old) (O.faults out.new) → ⊥) → ((result ≡ 3) × Puts (O.written out.old) (O.written out.new) (report_text Verdict.NotBuilt)) ⊎ (result ≡ 6) }
+    ensures no_module { NamesNoModule (map string_bytes words.now.items) (F.held files.old) → (Rose (F.faults files.old) (F.faults files.new) → ⊥) → (Rose (O.faults out.old) (O.faults out.new) → ⊥) → (result ≡ 3) ⊎ (result ≡ 6) }
+    ensures not_built { NamesNotBuilt (map string_bytes words.now.items) (F.held files.old) → (Rose (F.faults files.old) (F.faults files.new) → ⊥) → (Rose (O.faults out.old) (O.faults out.new) → ⊥) → ((result ≡ 3) × Puts (O.written out.old) (O.written out.new) (report_text Verdict.NotBuilt)) ⊎ (result ≡ 6) }
 
     // Words that are no command, and no others, are answered with the usage.
     ensures usage { result ≡ 2 → (command_of (map string_bytes words.now.items) ≡ None) × Puts (O.written out.old) (O.written out.new) (report_text Verdict.Usage) }
