@@ -1,0 +1,11 @@
+pub mod Orders
+pub mod OrderTurns
+pub mod OrderEquals
+pub mod OrderChains
+pub mod MatchLaws
+pub mod RunLaws
+pub mod AlikeRuns
+pub mod BoundFree
+pub mod SpentSteps
+pub mod MoreSteps
+pub mod RunExamples
