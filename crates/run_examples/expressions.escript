@@ -10,6 +10,9 @@
 %% and no comment (`%`) is an expression. Where the definitions say something else than Erlang on
 %% purpose, ` ~> OUTCOME` stands behind the expression: `wrong`, a value, or a class and a value with
 %% ` : ` between them.
+%%
+%% KindsOfWrong, ConstructsThatReturn and CallsAndSteps are written by hand. The first two cite examples
+%% by their numbers, so a new expression stands at the end of its group.
 
 -mode(compile).
 
@@ -273,7 +276,7 @@ write_group({Name, Words, Forms, Lines}) ->
         "use Rattle.std.proofs.Common.{refl}\n",
         "use Rattle.run_examples.specs.", Module, ".{", Module, ", ", lists:join(", ", Names), "}\n",
         "use Rattle.run_examples.proofs.Levels.{computed, outcome_in_levels}\n",
-        [["\n", N, "-runs : ", N, "\nunfolding outcome_in_levels\n", N, "-runs = computed _ _ _ _ refl\n"] || N <- Names],
+        [["\npub ", N, "-runs : ", N, "\nunfolding outcome_in_levels\n", N, "-runs = computed _ _ _ _ refl\n"] || N <- Names],
         "\npub ", Name, "-run : ", Module, "\n", Name, "-run = (", lists:join(", ", [[N, "-runs"] || N <- Names]), ")\n"]),
     write(["proofs/examples/", Name, "/Answers.antt"], [
         "use Rattle.run_examples.proofs.", Module, "Runs.{", Name, "-run}\n",
@@ -325,8 +328,8 @@ module_name(Name) -> lists:append([string:titlecase(W) || W <- string:split(Name
 
 write_library(Groups) ->
     Modules = [module_name(N) || {N, _, _, _} <- Groups],
-    write("specs/Lib.antt", ["pub mod Trees\npub mod Patterns\npub mod Outcomes\n", [["pub mod ", M, "\n"] || M <- Modules]]),
-    write("proofs/Lib.antt", ["mod Levels\n", [["mod ", M, "Runs\n"] || M <- Modules]]),
+    write("specs/Lib.antt", ["pub mod Trees\npub mod Patterns\npub mod Outcomes\n", [["pub mod ", M, "\n"] || M <- Modules], "pub mod KindsOfWrong\npub mod ConstructsThatReturn\npub mod CallsAndSteps\n"]),
+    write("proofs/Lib.antt", ["mod Levels\n", [["mod ", M, "Runs\n"] || M <- Modules], "mod KindsOfWrongRuns\nmod ConstructsThatReturnRuns\nmod CallsAndStepsRuns\n"]),
     write("src/examples.rt", [
         "//! Examples of runs, by groups. Written by expressions.escript.\n\n",
         [["ghost use Rattle.run_examples.specs.", M, ".{", M, "};\n"] || M <- Modules],

@@ -10,15 +10,18 @@ use Rattle.type_terms.specs.Instances.{Instance}
 use Rattle.type_terms.proofs.KeyLaws.{name-same, name-refl, name-is}
 use Rattle.erl_tree.specs.declared.token.Place.{Place}
 use Rattle.erl_tree.specs.declared.token.Node.{Node}
-use Rattle.erl_tree.specs.declared.pattern.PatternKind.{PatternKind, out-PatternKind}
+use Rattle.erl_tree.specs.declared.pattern.PatternKind.{PatternKind, out-PatternKind, roll-PatternKind, roll-out-PatternKind}
+use Rattle.erl_tree.specs.declared.pattern.PatternKind.TheVariants as Y
 use Rattle.erl_tree.specs.declared.pattern.PatternKind.TheOpen as P
+use Rattle.erl_tree.specs.declared.form.RecDefKind.{RecDefKind}
 use Rattle.erl_tree.specs.Lists.{Every, Among, AreDistinct}
 use Rattle.flat_modules.specs.Grammar.{IsPattern, is_pattern_layer}
 use Rattle.erl_runs.specs.Readable.{is_wildcard, bound_layer, bound_by}
 use Rattle.erl_runs.specs.Value.{Value, Environment}
-use Rattle.erl_runs.specs.Matching.{variable_value, with_variable, bound_to, match_layer, match_next, match_patterns}
+use Rattle.erl_runs.specs.Matching.{variable_value, with_variable, Match, match_variable, match_next, match_kind, match_patterns}
 use Rattle.erl_runs.specs.Membership.{Levels, values_in}
 use Rattle.erl_runs.proofs.FiniteMapLaws.{get-insert_same, get-insert_other}
+use Rattle.erl_runs.proofs.MatchLaws.{match_kind-Var}
 use Rattle.cert_checker.specs.Constraints.{variable_type}
 
 names-apart : (x y : Name) → (x ≡ y → ⊥) → (name_lt x y ≡ true) ⊎ (name_lt y x ≡ true)
@@ -61,7 +64,7 @@ always-in levels (v ∷ vs) (t ∷ ts) d i h = (λ k. (h k).0, always-in levels 
 always-in levels [] (t ∷ ts) d i h = h 0
 always-in levels (v ∷ vs) [] d i h = h 0
 
-module _ (In : Value → Term → Type 0) where
+module _ (In : Value → Term → Type 0) (records : List RecDefKind) where
   abbrev Rest : List Name → (Name → Option Term) → (Environment → Option Environment) → Type 0
   Rest bound type_of next = (e : Environment) → ((x : Name) → Among x bound → variable_value e x ≡ None) → Taken In bound type_of e (next e)
 
@@ -93,14 +96,19 @@ module _ (In : Value → Term → Type 0) where
 
     take-var : (w : Bool) → AreDistinct ((if w then [] else x ∷ []) ++ bound) → In v t → ((y : Name) → Among y ((if w then [] else x ∷ []) ++ bound) → variable_value e y ≡ None) → Rest bound type_of next →
         Taken In ((if w then [] else x ∷ []) ++ bound) (λ y. if list_any (same_name y) (if w then [] else x ∷ []) then Some t else type_of y) e
-        (match_next (if w then Some e else bound_to (variable_value e x) x v e) next)
+        (match_next (if w then Some e else match_variable (variable_value e x) x v e) next)
     take-var true d h unbound rest = rest e unbound
-    take-var false d h unbound rest = subst (λ o. Taken In (x ∷ bound) typed e (match_next (bound_to o x v e) next)) (sym (unbound x (inl refl))) (bind d.0 h (λ y a. unbound y (inr a)) rest)
+    take-var false d h unbound rest = subst (λ o. Taken In (x ∷ bound) typed e (match_next (match_variable o x v e) next)) (sym (unbound x (inl refl))) (bind d.0 h (λ y a. unbound y (inr a)) rest)
+
+  variable-matches : (x : Name) → match_kind records (roll-PatternKind (P.Var x)) ≡ (λ v e. if is_wildcard x then Some e else match_variable (variable_value e x) x v e)
+  variable-matches x = ap (λ k. match_kind records k) (Y.rolls-Var x) ∙ match_kind-Var records x
 
   take-pattern : (l : P.PatternKind-F PatternKind) (place : Place) (marks : List Place) → is_pattern_layer l place marks → (v : Value) (t : Term) (e : Environment) (bound : List Name) (type_of : Name → Option Term) (next : Environment → Option Environment) →
       AreDistinct (bound_layer l ++ bound) → In v t → ((y : Name) → Among y (bound_layer l ++ bound) → variable_value e y ≡ None) → Rest bound type_of next →
-      Taken In (bound_layer l ++ bound) (λ y. if list_any (same_name y) (bound_layer l) then Some t else type_of y) e (match_next (match_layer l v e) next)
-  take-pattern (P.Var x) place marks w v t e bound type_of next d h unbound rest = take-var x v t e bound type_of next (is_wildcard x) d h unbound rest
+      Taken In (bound_layer l ++ bound) (λ y. if list_any (same_name y) (bound_layer l) then Some t else type_of y) e (match_next (match_kind records (roll-PatternKind l) v e) next)
+  take-pattern (P.Var x) place marks w v t e bound type_of next d h unbound rest =
+      subst (λ (m : Match). Taken In ((if is_wildcard x then [] else x ∷ []) ++ bound) (λ y. if list_any (same_name y) (if is_wildcard x then [] else x ∷ []) then Some t else type_of y) e (match_next (m v e) next)) (sym (variable-matches x))
+      (take-var x v t e bound type_of next (is_wildcard x) d h unbound rest)
   take-pattern _ place marks w v t e bound type_of next d h unbound rest = absurd w
 
   distinct-rest : (xs ys : List Name) → AreDistinct (xs ++ ys) → AreDistinct ys
@@ -112,11 +120,12 @@ module _ (In : Value → Term → Type 0) where
   among-rest (x ∷ xs) ys y a = inr (among-rest xs ys y a)
 
   pub take-patterns : (ps : List (Node PatternKind)) (ts : List Term) (vs : List Value) (e : Environment) → Every IsPattern ps → AreDistinct (bound_by ps) → length ps ≡ length ts → all_in In vs ts →
-      ((x : Name) → Among x (bound_by ps) → variable_value e x ≡ None) → Taken In (bound_by ps) (variable_type ps ts) e (match_patterns ps vs e)
+      ((x : Name) → Among x (bound_by ps) → variable_value e x ≡ None) → Taken In (bound_by ps) (variable_type ps ts) e (match_patterns records ps vs e)
   take-patterns [] [] [] e w d l h unbound = record { environment = e; is = refl; own = λ x a. absurd a; others = λ x n. refl }
   take-patterns (p ∷ ps) (t ∷ ts) (v ∷ vs) e w d l h unbound =
-      take-pattern (out-PatternKind p.kind) p.place p.marks w.0 v t e (bound_by ps) (variable_type ps ts) (match_patterns ps vs) d h.0 unbound
-      (λ e' u. take-patterns ps ts vs e' w.1 (distinct-rest (bound_layer (out-PatternKind p.kind)) (bound_by ps) d) (cc) h.1 u)
+      subst (λ k. Taken In (bound_by (p ∷ ps)) (variable_type (p ∷ ps) (t ∷ ts)) e (match_next (match_kind records k v e) (match_patterns records ps vs))) (roll-out-PatternKind p.kind)
+      (take-pattern (out-PatternKind p.kind) p.place p.marks w.0 v t e (bound_by ps) (variable_type ps ts) (match_patterns records ps vs) d h.0 unbound
+      (λ e' u. take-patterns ps ts vs e' w.1 (distinct-rest (bound_layer (out-PatternKind p.kind)) (bound_by ps) d) (cc) h.1 u))
   take-patterns [] (t ∷ ts) vs e w d l h unbound = absurd (cc)
   take-patterns (p ∷ ps) [] vs e w d l h unbound = absurd (cc)
   take-patterns [] [] (v ∷ vs) e w d l h unbound = absurd h

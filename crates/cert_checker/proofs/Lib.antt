@@ -6,6 +6,8 @@ pub mod KeyTerms
 pub mod Calls
 pub mod Refutations
 pub mod Judged
+pub mod BuiltInLaws
+pub mod CodeLaws
 pub mod Safe
 pub mod Tables
 pub mod ValueSets
@@ -24,4 +26,5 @@ pub mod FunctionBodies
 pub mod Sequences
 pub mod ModuleForms
 pub mod ModuleChecks
+pub mod SmallRuns
 pub mod Small

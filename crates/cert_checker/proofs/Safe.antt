@@ -21,7 +21,10 @@ use Rattle.erl_tree.specs.declared.expr.BinaryOp.{BinaryOp}
 use Rattle.erl_tree.specs.declared.expr.BinaryOp.TheVariants.{Add, Sub, Mul}
 use Rattle.erl_tree.specs.declared.expr.ExprKind.{ExprKind}
 use Rattle.erl_tree.specs.declared.expr.ExprKind.TheVariants as X
+use Rattle.erl_tree.specs.declared.expr.ItemKind.{roll-ItemKind, roll-out-ItemKind}
+use Rattle.erl_tree.specs.declared.expr.ItemKind.TheVariants as I
 use Rattle.erl_tree.specs.declared.expr.ClauseKind.{ClauseKind, out-ClauseKind}
+use Rattle.erl_tree.specs.declared.form.RecDefKind.{RecDefKind}
 use Rattle.erl_tree.specs.declared.form.Function.{Function}
 use Rattle.erl_tree.specs.declared.form.Module.{Module}
 use Rattle.erl_tree.specs.Lists.{Every, Among}
@@ -29,15 +32,17 @@ use Rattle.erl_tree.specs.Functions.{of_function, function_id, functions_of, fun
 use Rattle.erl_runs.specs.Specs.{and_then, one_integer, specs_of, specs_in, spec_id}
 use Rattle.flat_modules.specs.Grammar.{IsExpr, one_product, sum, IsProduct, one_operand, product, IsOperand, AreArguments, no_arguments, last_argument, more_arguments, IsAdditive, IsPattern, is_pattern_layer, IsBody}
 use Rattle.flat_modules.specs.Grammar as G
-use Rattle.erl_runs.specs.Readable.{is_wildcard, bound_layer, bound_by}
+use Rattle.erl_runs.specs.Readable.{is_wildcard, bound_layer, bound_by, is_built_in}
 use Rattle.flat_modules.specs.FlatModules.{HasDistinctHead, IsFlatModule}
 use Rattle.flat_modules.proofs.FlatLaws.{flat-formed}
 use Rattle.erl_runs.specs.Value.{Value, Environment, no_bindings, named_fun, Run, Outcome, came, raised, wrong, going, integer, atom, Call, nil, cons, tuple, map_of, closure}
 use Rattle.erl_runs.specs.Matching.{variable_value, match_patterns}
 use Rattle.erl_runs.specs.Membership.{Program, InTerm, values_in, arrows_if, arrows_of, ends_well, calls_within}
-use Rattle.erl_runs.specs.Running.{gives, gives_found, goes_wrong, go_on, then, Applies, operate, run_kind, run_expression, run_item_layer, run_clause, run_clauses, run_found, Code, code_of, enter, apply_within, apply, program_of}
+use Rattle.erl_runs.specs.Records.{records_of}
+use Rattle.erl_runs.specs.Operations.{operate, built_in}
+use Rattle.erl_runs.specs.Running.{ends, gives, gives_found, goes_wrong, go_on, then, Applies, behind, run_all, run_operator, run_call, taken_anew, run_clauses, run_kind, choices, Code, code_of, numbered, find_numbered, arity_of, run_function, enter, apply_within, apply, program_of}
 use Rattle.erl_runs.specs.Safety.{IsRightRun, IsSafe}
-use Rattle.erl_runs.proofs.MeaningLaws.{run_args, run_kind-Int, run_kind-Atom, run_kind-Var, run_kind-Paren, run_kind-Binary, run_kind-Call}
+use Rattle.erl_runs.proofs.RunLaws.{expr_part, runs-Int, runs-Atom, runs-Var, runs-Paren, runs-Binary, runs-Call, run_bound, one_clause-runs}
 use Rattle.cert_checker.specs.Constraints.{Test, Holds, IsWithin, Context, Judged, JudgedAll, of_type, integers, is_arithmetic, operand, operation, call, variable_type, judge, judge_kind, owed_result, owed_by_clauses, owed_for_arrows, owed_by_functions, owed_of}
 use Rattle.cert_checker.specs.Failures.{MeetsConstraints}
 use Rattle.cert_checker.proofs.Lists.{every-split, every-at, then-some, some-inj, none-some}
@@ -48,6 +53,8 @@ use Rattle.cert_checker.proofs.KeyTerms.{IsOfKeys, IsArrowOfKeys, moved, values-
 use Rattle.cert_checker.proofs.Calls.{call-takes}
 use Rattle.cert_checker.proofs.Tables.{own-arrow}
 use Rattle.cert_checker.proofs.Judged.{JudgedBody, body-judged, body-owes, clause-parts, among-source}
+use Rattle.cert_checker.proofs.BuiltInLaws.{not-built_in}
+use Rattle.cert_checker.proofs.CodeLaws.{found-numbered}
 
 -- the test that finds that all arguments fit: a call's type is the spec's result
 abbrev pub always : Test
@@ -181,35 +188,57 @@ module _ (program : Program) where
   abbrev IsInteger : Value → Type 0
   IsInteger v = Held v integers
 
-  operates : (op : BinaryOp) → (op ≡ Add) ⊎ ((op ≡ Sub) ⊎ (op ≡ Mul)) → (v w : Value) (steps : ℕ) → IsInteger v → IsInteger w → GoodRun Value IsInteger (operate op v w steps)
+  operates : (op : BinaryOp) → (op ≡ Add) ⊎ ((op ≡ Sub) ⊎ (op ≡ Mul)) → (v w : Value) (steps : ℕ) → IsInteger v → IsInteger w → GoodRun Value IsInteger (ends (operate op v w) steps)
   operates op o v w steps h k =
       let m : (m : ℤ) × (v ≡ integer m) = integer-held v h in
       let n : (n : ℤ) × (w ≡ integer n) = integer-held w k in
-      subst (λ z. GoodRun Value IsInteger (operate op z w steps)) (sym m.1) (subst (λ z. GoodRun Value IsInteger (operate op (integer m.0) z steps)) (sym n.1) (elim o [
-        | inl e ↦ subst (λ z. GoodRun Value IsInteger (operate z (integer m.0) (integer n.0) steps)) (sym e) (record { ends = refl; calls = tt })
+      subst (λ z. GoodRun Value IsInteger (ends (operate op z w) steps)) (sym m.1) (subst (λ z. GoodRun Value IsInteger (ends (operate op (integer m.0) z) steps)) (sym n.1) (elim o [
+        | inl e ↦ subst (λ z. GoodRun Value IsInteger (ends (operate z (integer m.0) (integer n.0)) steps)) (sym e) (record { ends = refl; calls = tt })
         | inr p ↦ elim p [
-          | inl e ↦ subst (λ z. GoodRun Value IsInteger (operate z (integer m.0) (integer n.0) steps)) (sym e) (record { ends = refl; calls = tt })
-          | inr e ↦ subst (λ z. GoodRun Value IsInteger (operate z (integer m.0) (integer n.0) steps)) (sym e) (record { ends = refl; calls = tt })
+          | inl e ↦ subst (λ z. GoodRun Value IsInteger (ends (operate z (integer m.0) (integer n.0)) steps)) (sym e) (record { ends = refl; calls = tt })
+          | inr e ↦ subst (λ z. GoodRun Value IsInteger (ends (operate z (integer m.0) (integer n.0)) steps)) (sym e) (record { ends = refl; calls = tt })
         ]
       ]))
+
+  -- such an operator runs its operand on the right behind that on the left
+  operator-runs : (op : BinaryOp) → (op ≡ Add) ⊎ ((op ≡ Sub) ⊎ (op ≡ Mul)) → (v : Value) (right : ℕ → Run Value) (steps : ℕ) → run_operator op v right steps ≡ (then) (right steps) (λ w left. ends (operate op v w) left)
+  operator-runs op o v right steps = elim o [
+    | inl e ↦ subst (λ z. run_operator z v right steps ≡ (then) (right steps) (λ w left. ends (operate z v w) left)) (sym e) refl
+    | inr p ↦ elim p [
+      | inl e ↦ subst (λ z. run_operator z v right steps ≡ (then) (right steps) (λ w left. ends (operate z v w) left)) (sym e) refl
+      | inr e ↦ subst (λ z. run_operator z v right steps ≡ (then) (right steps) (λ w left. ends (operate z v w) left)) (sym e) refl
+    ]
+  ]
 
   held-within : (s t : Term) → IsWithin s t → (v : Value) → Held v s → Held v t
   held-within s t w v h = w program no_variables 0 v tt h
 
   -- ---- expressions
 
-  module _ (number : ℕ) (specs : List FunSpec) (keyed : (name : Name) (arity : ℕ) (arrow : Arrow) → Contains (arrows_of specs name arity) arrow → IsArrowOfKeys arrow) (apply : Applies)
+  module _ (number : ℕ) (specs : List FunSpec) (keyed : (name : Name) (arity : ℕ) (arrow : Arrow) → Contains (arrows_of specs name arity) arrow → IsArrowOfKeys arrow) (records : List RecDefKind) (arity : Value → ℕ) (apply : Applies)
+      (free : (name : Name) (arrow : Arrow) (vs : List Value) → arrows_of specs name (length vs) ≡ arrow ∷ [] → built_in arity name vs ≡ None)
       (called : (name : Name) (arrow : Arrow) (vs : List Value) (steps : ℕ) → arrows_of specs name (length vs) ≡ arrow ∷ [] → AreHeld vs arrow.params → GoodRun Value (λ v. Held v arrow.result) (apply (named_fun name (length vs)) vs steps))
       (context : Context) (environment : Environment) (owns : (x : Name) (t : Term) → context x ≡ Some t → IsOfKeys t × (v : Value) × (variable_value environment x ≡ Some v) × Held v t) where
-    -- the type is of keys, and where what is owed holds, each run is good for it
+    -- what an expression is run as, and several in turn
+    abbrev runs : Node ExprKind → ℕ → ℕ → Run Value
+    runs e first steps = (expr_part records arity apply e).run first environment steps
+
+    abbrev run_args : List (Node ExprKind) → ℕ → ℕ → Run (List Value)
+    run_args es first steps = run_all (map (expr_part records arity apply) es) first environment steps
+
+    -- the number behind those of the fun expressions in an expression
+    abbrev past : Node ExprKind → ℕ → ℕ
+    past e first = behind first (expr_part records arity apply e).funs
+
+    -- the type is of keys, and where what is owed holds, each run is good for it, whatever the number of its first fun expression
     record Sound (e : ExprKind) (j : Judged) : Type 0 where
       keys : IsOfKeys j.type
-      good : Every Holds j.owed → (steps : ℕ) → GoodRun Value (λ v. Held v j.type) (run_kind apply e environment steps)
+      good : Every Holds j.owed → (first steps : ℕ) → GoodRun Value (λ v. Held v j.type) ((run_kind records arity apply e).run first environment steps)
 
     -- the same of expressions in turn
     record AreSound (es : List (Node ExprKind)) (js : JudgedAll) : Type 0 where
       keys : Every IsOfKeys js.types
-      good : Every Holds js.owed → (steps : ℕ) → GoodRun (List Value) (λ vs. AreHeld vs js.types) (run_args apply es environment steps)
+      good : Every Holds js.owed → (first steps : ℕ) → GoodRun (List Value) (λ vs. AreHeld vs js.types) (run_args es first steps)
 
     sound-at : (e : ExprKind) (i j : Judged) → Some i ≡ Some j → Sound e i → Sound e j
     sound-at e i j q s = subst (λ z. Sound e z) (some-inj i j q) s
@@ -239,13 +268,14 @@ module _ (program : Program) where
         (ap (λ z. operation always number specs z a.place x.0 b.place y.0) (sym (is-arithmetic op o)) ∙ y.2)
         (record {
           keys = ints-keys None None;
-          good = λ h steps.
+          good = λ h first steps.
               let h1 : Every Holds x.0.owed × Every Holds (y.0.owed ++ operand always number specs a.place x.0.type ∷ operand always number specs b.place y.0.type ∷ []) = every-split Holds x.0.owed _ h in
               let h2 : Every Holds y.0.owed × Every Holds (operand always number specs a.place x.0.type ∷ operand always number specs b.place y.0.type ∷ []) = every-split Holds y.0.owed _ h1.1 in
-              subst (λ z. GoodRun Value IsInteger z) (sym (run_kind-Binary apply op a b environment steps))
-              (then-good (λ v. Held v x.0.type) IsInteger (run_expression apply a environment steps) _ (s.good h1.0 steps) (λ v left hv.
-              then-good (λ w. Held w y.0.type) IsInteger (run_expression apply b environment left) _ (t.good h2.0 left) (λ w rest hw.
-              operates op o v w rest (held-within x.0.type integers h2.1.0 v hv) (held-within y.0.type integers h2.1.1.0 w hw))));
+              subst (λ z. GoodRun Value IsInteger z) (sym (runs-Binary records arity apply op a b first environment steps))
+              (then-good (λ v. Held v x.0.type) IsInteger (runs a first steps) _ (s.good h1.0 first steps) (λ v left hv.
+              subst (λ z. GoodRun Value IsInteger z) (sym (operator-runs op o v (λ rest. runs b (past a first) rest) left))
+              (then-good (λ w. Held w y.0.type) IsInteger (runs b (past a first) left) _ (t.good h2.0 (past a first) left) (λ w rest hw.
+              operates op o v w rest (held-within x.0.type integers h2.1.0 v hv) (held-within y.0.type integers h2.1.1.0 w hw)))));
         })
 
     held-length : (vs : List Value) (ts : List Term) → AreHeld vs ts → length vs ≡ length ts
@@ -269,15 +299,17 @@ module _ (program : Program) where
             (record { type = arrow.result; owed = js.owed ++ record { function = number; place = place; kind = CallKind; left = And (Fun arrow.params arrow.result ∷ []); right = Fun js.types arrow.result } ∷ [] }) j q
             (record {
               keys = k.1;
-              good = λ h steps.
+              good = λ h first steps.
                   let hs : Every Holds js.owed × Every Holds (record { function = number; place = place; kind = CallKind; left = And (Fun arrow.params arrow.result ∷ []); right = Fun js.types arrow.result } ∷ []) = every-split Holds js.owed _ h in
-                  subst (λ z. GoodRun Value (λ v. Held v arrow.result) z) (sym (run_kind-Call apply name args environment steps))
-                  (then-good (λ vs. AreHeld vs js.types) (λ v. Held v arrow.result) (run_args apply args environment steps) _ (s.good hs.0 steps) (λ vs left hv.
-                  called name arrow vs left (ap (arrows_of specs name) (held-length vs js.types hv) ∙ e) (call-takes js.types arrow.params arrow.result arrow.result s.keys k.0 hs.1.0 program 0 no_variables vs hv)));
+                  subst (λ z. GoodRun Value (λ v. Held v arrow.result) z) (sym (runs-Call records arity apply None name args first environment steps))
+                  (then-good (λ vs. AreHeld vs js.types) (λ v. Held v arrow.result) (run_args args first steps) _ (s.good hs.0 first steps) (λ vs left hv.
+                  let one : arrows_of specs name (length vs) ≡ arrow ∷ [] = ap (arrows_of specs name) (held-length vs js.types hv) ∙ e in
+                  subst (λ z. GoodRun Value (λ v. Held v arrow.result) (run_call None z (λ rest. apply (named_fun name (length vs)) vs rest) left)) (sym (free name arrow vs one))
+                  (called name arrow vs left one (call-takes js.types arrow.params arrow.result arrow.result s.keys k.0 hs.1.0 program 0 no_variables vs hv))));
             })
 
     args-none : ArgsSound []
-    args-none js q = are-sound-at [] (record { types = []; owed = [] }) js q (record { keys = tt; good = λ h steps. record { ends = tt; calls = tt } })
+    args-none js q = are-sound-at [] (record { types = []; owed = [] }) js q (record { keys = tt; good = λ h first steps. record { ends = tt; calls = tt } })
 
     args-more : (e : Node ExprKind) (es : List (Node ExprKind)) → ExprSound e → ArgsSound es → ArgsSound (e ∷ es)
     args-more e es se ses js q =
@@ -288,10 +320,10 @@ module _ (program : Program) where
         are-sound-at (e ∷ es) (record { types = x.0.type ∷ y.0.types; owed = x.0.owed ++ y.0.owed }) js y.2
         (record {
           keys = (s.keys, t.keys);
-          good = λ h steps.
+          good = λ h first steps.
               let hs : Every Holds x.0.owed × Every Holds y.0.owed = every-split Holds x.0.owed y.0.owed h in
-              then-good (λ v. Held v x.0.type) (λ vs. AreHeld vs (x.0.type ∷ y.0.types)) (run_expression apply e environment steps) _ (s.good hs.0 steps) (λ v left hv.
-              then-good (λ vs. AreHeld vs y.0.types) (λ vs. AreHeld vs (x.0.type ∷ y.0.types)) (run_args apply es environment left) _ (t.good hs.1 left) (λ vs rest hvs. record { ends = (hv, hvs); calls = tt }));
+              then-good (λ v. Held v x.0.type) (λ vs. AreHeld vs (x.0.type ∷ y.0.types)) (runs e first steps) _ (s.good hs.0 first steps) (λ v left hv.
+              then-good (λ vs. AreHeld vs y.0.types) (λ vs. AreHeld vs (x.0.type ∷ y.0.types)) (run_args es (past e first) left) _ (t.good hs.1 (past e first) left) (λ vs rest hvs. record { ends = (hv, hvs); calls = tt }));
         })
 
     additive : (op : BinaryOp) → IsAdditive op → (op ≡ Add) ⊎ ((op ≡ Sub) ⊎ (op ≡ Mul))
@@ -310,17 +342,17 @@ module _ (program : Program) where
 
       operand-sound : (e : Node ExprKind) → IsOperand e → (j : Judged) → judge always number specs e context ≡ Some j → Sound e.kind j
       operand-sound e (G.integer p n) j q = sound-at (X.Int n) (record { type = one_integer n; owed = [] }) j (sym (judge_kind-Int always number specs n p context) ∙ q)
-          (record { keys = ints-keys (Some n) (Some n); good = λ h steps. subst (λ z. GoodRun Value (λ v. Held v (one_integer n)) z) (sym (run_kind-Int apply n environment steps)) (record { ends = and_from _ _ (le-same n) (le-same n); calls = tt }) })
+          (record { keys = ints-keys (Some n) (Some n); good = λ h first steps. subst (λ z. GoodRun Value (λ v. Held v (one_integer n)) z) (sym (runs-Int records arity apply n first environment steps)) (record { ends = and_from _ _ (le-same n) (le-same n); calls = tt }) })
       operand-sound e (G.atom p a) j q = sound-at (X.Atom a) (record { type = AtomLit a; owed = [] }) j (sym (judge_kind-Atom always number specs a p context) ∙ q)
-          (record { keys = atom-keys a; good = λ h steps. subst (λ z. GoodRun Value (λ v. Held v (AtomLit a)) z) (sym (run_kind-Atom apply a environment steps)) (record { ends = name-refl a; calls = tt }) })
+          (record { keys = atom-keys a; good = λ h first steps. subst (λ z. GoodRun Value (λ v. Held v (AtomLit a)) z) (sym (runs-Atom records arity apply a first environment steps)) (record { ends = name-refl a; calls = tt }) })
       operand-sound e (G.variable p x) j q =
           let t : (t : Term) × (context x ≡ Some t) × (of_type t ≡ Some j) = then-some (context x) _ j (sym (judge_kind-Var always number specs x p context) ∙ q) in
           let o : IsOfKeys t.0 × (v : Value) × (variable_value environment x ≡ Some v) × Held v t.0 = owns x t.0 t.1 in
           sound-at (X.Var x) (record { type = t.0; owed = [] }) j t.2
-          (record { keys = o.0; good = λ h steps. subst (λ z. GoodRun Value (λ v. Held v t.0) z) (sym (run_kind-Var apply x environment steps ∙ ap (λ z. gives_found z steps) o.2)) (record { ends = o.3; calls = tt }) })
+          (record { keys = o.0; good = λ h first steps. subst (λ z. GoodRun Value (λ v. Held v t.0) z) (sym (runs-Var records arity apply x first environment steps ∙ ap (λ z. gives_found z steps) o.2)) (record { ends = o.3; calls = tt }) })
       operand-sound e (G.parens o c f w) j q =
           let s : Sound f.kind j = expr-sound f w j (sym (judge_kind-Paren always number specs f o context) ∙ q) in
-          record { keys = s.keys; good = λ h steps. subst (λ z. GoodRun Value (λ v. Held v j.type) z) (sym (run_kind-Paren apply f environment steps)) (s.good h steps) }
+          record { keys = s.keys; good = λ h first steps. subst (λ z. GoodRun Value (λ v. Held v j.type) z) (sym (runs-Paren records arity apply f first environment steps)) (s.good h first steps) }
       operand-sound e (G.call n o ms name args w) j q = call-sound n name args (λ js r. args-sound args ms w js r) j q
 
       args-sound : (es : List (Node ExprKind)) (ms : List Place) → AreArguments es ms → (js : JudgedAll) → judge_args always number specs es context ≡ Some js → AreSound es js
@@ -354,6 +386,11 @@ module _ (m : Module) (flat : IsFlatModule m) (hold : Every Holds (owed_of alway
   keys-of : (name : Name) (arity : ℕ) (arrow : Arrow) → Contains (arrows_of (specs_of m) name arity) arrow → IsArrowOfKeys arrow
   keys-of = module-keys m (flat-formed m flat) flat.readable.specs_read
 
+  free : (name : Name) (arrow : Arrow) (vs : List Value) → arrows_of (specs_of m) name (length vs) ≡ arrow ∷ [] → built_in (arity_of code) name vs ≡ None
+  free name arrow vs e =
+      let d : Among (of_function name (length vs)) (function_ids m) = every-at _ (of_function name (length vs)) (map spec_id (specs_of m)) flat.readable.defined (arrow-named (specs_of m) name (length vs) arrow [] e) in
+      not-built_in name (arity_of code) vs (every-at (λ id. is_built_in id ≡ false) (of_function name (length vs)) (function_ids m) flat.readable.not_built_in d)
+
   all-held : (vs : List Value) (ts : List Term) → AreHeld whole vs ts → all_in (Held whole) vs ts
   all-held [] [] h = tt
   all-held (v ∷ vs) (t ∷ ts) h = (h.0, all-held vs ts h.1)
@@ -364,9 +401,9 @@ module _ (m : Module) (flat : IsFlatModule m) (hold : Every Holds (owed_of alway
   unfolding owed_of
   function-owes f arrow a c = functions-hold 0 (functions_of m) (specs_of m) f arrow hold a c
 
-  function-good : (apply : Applies) → IsCalled apply → (f : Function) → Among f (functions_of m) → (arrow : Arrow) → Contains (arrows_of (specs_of m) f.name (clauses_arity f.clauses)) arrow → (vs : List Value) (steps : ℕ) → AreHeld whole vs arrow.params →
-      GoodRun whole Value (λ v. Held whole v arrow.result) (run_clauses apply f.clauses vs steps)
-  function-good apply called f a arrow c vs steps h =
+  function-good : (apply : Applies) → IsCalled apply → (f : Function) → Among f (functions_of m) → (arrow : Arrow) → Contains (arrows_of (specs_of m) f.name (clauses_arity f.clauses)) arrow → (first : ℕ) (vs : List Value) (steps : ℕ) → AreHeld whole vs arrow.params →
+      GoodRun whole Value (λ v. Held whole v arrow.result) (run_function code apply (Some (f, first)) vs steps)
+  function-good apply called f a arrow c first vs steps h =
       let k : IsArrowOfKeys arrow = keys-of f.name (clauses_arity f.clauses) arrow c in
       let o : (k : ℕ) × Every Holds (owed_by_clauses always k (specs_of m) f.clauses arrow) = function-owes f arrow a c in
       let b : JudgedBody always o.0 (specs_of m) f arrow = body-judged always o.0 m flat f a arrow c in
@@ -377,12 +414,17 @@ module _ (m : Module) (flat : IsFlatModule m) (hold : Every Holds (owed_of alway
       let distinct : Every HasDistinctHead (b.clause ∷ []) = subst (λ z. Every HasDistinctHead z) b.one_clause (every-at _ f (functions_of m) flat.distinct_heads a) in
       let one : Every HasOneArrow (specs_of m) = one-arrow-each (specs_in m.forms) (specs_of m) (forms-specs m.forms (well_formed-forms m (flat-formed m flat))) flat.readable.specs_read in
       let len : length patterns ≡ length arrow.params = sym (arrow-arity (specs_of m) f.name (clauses_arity f.clauses) arrow one c ∙ ap clauses_arity b.one_clause) in
-      let t : Taken (Held whole) (bound_by patterns) (variable_type patterns arrow.params) no_bindings (match_patterns patterns vs no_bindings) = take-patterns (Held whole) patterns arrow.params vs no_bindings p.1 distinct.0 len (all-held vs arrow.params h) (λ x z. refl) in
-      let same : run_clauses apply f.clauses vs steps ≡ run_expression apply b.expression t.environment steps =
-      ap (λ z. run_clauses apply z vs steps) b.one_clause ∙ ((λ i. run_clause apply (p.0 i) (t.is i) (b.one_item i) steps) ∙ ap (λ z. run_item_layer apply z t.environment steps) b.is_expression) in
-      let s : Sound whole o.0 (specs_of m) keys-of apply called (variable_type patterns arrow.params) t.environment (owns b.clause arrow k p.1 t.environment t.own) b.expression.kind b.judged =
-      expr-sound whole o.0 (specs_of m) keys-of apply called (variable_type patterns arrow.params) t.environment (owns b.clause arrow k p.1 t.environment t.own) b.expression b.formed b.judged b.is_judged in
-      subst (λ z. GoodRun whole Value (λ v. Held whole v arrow.result) z) (sym same) (good-weaker whole (λ v. Held whole v b.judged.type) (λ v. Held whole v arrow.result) (run_expression apply b.expression t.environment steps) (λ v x. held-within whole b.judged.type arrow.result own.1.0 v x) (s.good own.0 steps))
+      let t : Taken (Held whole) (bound_by patterns) (variable_type patterns arrow.params) no_bindings (match_patterns (records_of m) patterns vs no_bindings) = take-patterns (Held whole) (records_of m) patterns arrow.params vs no_bindings p.1 distinct.0 len (all-held vs arrow.params h) (λ x z. refl) in
+      let layer : out-ClauseKind b.clause.kind ≡ record { patterns = patterns; guard = None; body = b.item ∷ [] } = λ i. record { patterns = patterns; guard = p.0 i; body = b.one_item i } in
+      let item : b.item.kind ≡ I.Value b.expression = sym (roll-out-ItemKind b.item.kind) ∙ (ap roll-ItemKind b.is_expression ∙ I.rolls-Value b.expression) in
+      let body : Run Value = (run_kind (records_of m) (arity_of code) apply b.expression.kind).run first t.environment steps in
+      let same : run_clauses taken_anew (choices (records_of m) (arity_of code) apply f.clauses) first no_bindings vs steps ≡ body =
+      ap (λ z. run_clauses taken_anew (choices (records_of m) (arity_of code) apply z) first no_bindings vs steps) b.one_clause
+      ∙ (one_clause-runs (records_of m) (arity_of code) apply b.clause.kind patterns b.item b.expression layer item first vs steps
+      ∙ ap (λ z. run_bound (records_of m) (arity_of code) apply z (λ environment. (run_kind (records_of m) (arity_of code) apply b.expression.kind).run first environment steps) steps) t.is) in
+      let s : Sound whole o.0 (specs_of m) keys-of (records_of m) (arity_of code) apply free called (variable_type patterns arrow.params) t.environment (owns b.clause arrow k p.1 t.environment t.own) b.expression.kind b.judged =
+      expr-sound whole o.0 (specs_of m) keys-of (records_of m) (arity_of code) apply free called (variable_type patterns arrow.params) t.environment (owns b.clause arrow k p.1 t.environment t.own) b.expression b.formed b.judged b.is_judged in
+      subst (λ z. GoodRun whole Value (λ v. Held whole v arrow.result) z) (sym same) (good-weaker whole (λ v. Held whole v b.judged.type) (λ v. Held whole v arrow.result) body (λ v x. held-within whole b.judged.type arrow.result own.1.0 v x) (s.good own.0 first steps))
     where
       owns : (c : Node ClauseKind) (arrow : Arrow) → IsArrowOfKeys arrow → Every IsPattern (out-ClauseKind c.kind).patterns → (e : Environment) →
           ((x : Name) → Among x (bound_by (out-ClauseKind c.kind).patterns) → (t : Term) × (v : Value) × (variable_type (out-ClauseKind c.kind).patterns arrow.params x ≡ Some t) × (variable_value e x ≡ Some v) × Held whole v t) →
@@ -402,10 +444,11 @@ module _ (m : Module) (flat : IsFlatModule m) (hold : Every Holds (owed_of alway
       let d : Among (of_function name (length vs)) (function_ids m) = every-at _ (of_function name (length vs)) (map spec_id (specs_of m)) flat.readable.defined (arrow-named (specs_of m) name (length vs) arrow [] e) in
       let f : (f : Function) × Among f (functions_of m) × (of_function name (length vs) ≡ function_id f) = among-source function_id (of_function name (length vs)) (functions_of m) d in
       let is : find_function (functions_of m) name (length vs) ≡ Some f.0 = ap (λ (z : FunctionId). find_function (functions_of m) z.name z.arity) f.2 ∙ found (functions_of m) f.0 f.1 flat.readable.functions_distinct in
-      let g : GoodRun whole Value (λ v. Held whole v arrow.result) (run_clauses apply f.0.clauses vs steps) = function-good apply called f.0 f.1 arrow (subst (λ (z : FunctionId). Contains (arrows_of (specs_of m) z.name z.arity) arrow) f.2 c) vs steps h in
-      let run : Run Value = run_found apply (find_function (functions_of m) name (length vs)) vs steps in
+      let n : (first : ℕ) × (find_numbered (numbered (functions_of m) 0) name (length vs) ≡ Some (f.0, first)) = found-numbered (functions_of m) name (length vs) 0 f.0 is in
+      let g : GoodRun whole Value (λ v. Held whole v arrow.result) (run_function code apply (Some (f.0, n.0)) vs steps) = function-good apply called f.0 f.1 arrow (subst (λ (z : FunctionId). Contains (arrows_of (specs_of m) z.name z.arity) arrow) f.2 c) n.0 vs steps h in
+      let run : Run Value = run_function code apply (find_numbered (numbered (functions_of m) 0) name (length vs)) vs steps in
       let r : GoodRun whole Value (λ v. Held whole v arrow.result) (cond (nat_eq (length vs) (length vs)) run (goes_wrong steps)) =
-      cond-good (nat_eq (length vs) (length vs)) arrow.result run steps (eq-eqb (length vs) (length vs) refl) (subst (λ z. GoodRun whole Value (λ v. Held whole v arrow.result) (run_found apply z vs steps)) (sym is) g) in
+      cond-good (nat_eq (length vs) (length vs)) arrow.result run steps (eq-eqb (length vs) (length vs) refl) (subst (λ z. GoodRun whole Value (λ v. Held whole v arrow.result) (run_function code apply z vs steps)) (sym n.1) g) in
       record { ends = r.ends; calls = ((λ none. none arrow no_variables c tt (values-moved arrow.params (keys-of name (length vs) arrow c).0 whole whole 0 steps no_variables no_variables vs h)), r.calls) }
 
   -- by induction on the bound of applications inside one another

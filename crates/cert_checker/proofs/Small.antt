@@ -1,6 +1,6 @@
 -- The small modules of the examples, by computing.
-use Rattle.std.proofs.Common.{◌≡◌, refl, sym, ◌∙◌, ap, subst, inl, inr, ℕ, ℤ, ◌+◌, ◌<◌, List, [], ◌∷◌, ◌++◌, arith}
-use Rattle.std.specs.Prelude.{Bool, true, false, ◌&&◌, nat_le, pos, negsuc, codes, Option, Some, map, if◌then◌else◌}
+use Rattle.std.proofs.Common.{◌≡◌, refl, sym, ◌∙◌, ap, subst, inl, inr, ℕ, suc, ℤ, ◌+◌, ◌<◌, List, [], ◌∷◌, ◌++◌, arith}
+use Rattle.std.specs.Prelude.{Bool, true, false, ◌&&◌, nat_le, pos, negsuc, ◌-ℤ◌, codes, Option, Some, map, if◌then◌else◌}
 use Rattle.std.specs.Option.{unwrap_or}
 use Rattle.std.proofs.lemmas.Bool.{and_parts, true≢false, false≢true}
 use Rattle.type_terms.specs.Keys.{Name, same_name}
@@ -40,11 +40,14 @@ use Rattle.cert_checker.specs.Examples as X
 use Rattle.cert_checker.specs.Examples.{place, leaf, integer_type, small_spec_clause, small_spec, small_clause, small_module, identity, constant, recursive_call, recursive, two_calls, second_call_wrong, integers, spec_to_integers, small_specs}
 use Rattle.erl_runs.specs.Specs.{one_integer}
 use Rattle.erl_runs.specs.Value as V
-use Rattle.erl_runs.specs.Running
-use Rattle.erl_runs.specs.Running.{apply, apply_within, code_of, program_of}
+use Rattle.erl_runs.specs.Matching.{with_variable}
+use Rattle.erl_runs.specs.Operations.{operate}
+use Rattle.erl_runs.specs.Running as R
+use Rattle.erl_runs.specs.Running.{Code, code_of, apply, apply_within, program_of}
 use Rattle.erl_runs.specs.Membership.{ends_well}
 use Rattle.erl_runs.specs.Safety.{IsRightRun, IsSafe}
-use Rattle.erl_runs.proofs.MeaningLaws.{run_laws}
+use Rattle.erl_runs.proofs.RunLaws.{expr_part, runs-Int, runs-Atom, runs-Var, runs-Binary}
+use Rattle.erl_runs.proofs.BoundFree.{apply-none}
 use Rattle.cert_checker.specs.declared.refusal.Shown.TheVariants.{One, Missing}
 use Rattle.cert_checker.specs.declared.refusal.FirstRefusal.TheVariants.{Failed}
 use Rattle.cert_checker.specs.Constraints.{Test, Holds, IsWithin, owed_by_functions, owed_of}
@@ -54,6 +57,7 @@ use Rattle.cert_checker.proofs.Calls.{call-within, within-same, within-any}
 use Rattle.cert_checker.proofs.JudgeLaws.{judge_laws}
 use Rattle.cert_checker.proofs.Refutations.{refuted-fails, call-refuted}
 use Rattle.cert_checker.proofs.Safe.{holds-safe}
+use Rattle.cert_checker.proofs.SmallRuns.{first-found, small-applied, call-runs}
 use Rattle.cert_checker.proofs.Lists.{every-join}
 
 append-none : {A : Type 0} (P : A → Type 0) (xs : List A) → Every P xs → Every P (xs ++ [])
@@ -238,13 +242,28 @@ recursive-safe = holds-safe recursive recursive-flat (subst (λ z. Every Holds z
 
 -- ---- runs
 
+-- the environment with this value for `X`
+abbrev with_x : V.Value → V.Environment
+with_x v = with_variable (codes "X") v V.no_bindings
+
+abbrev call_of_f : V.Value → ℕ → V.Call
+call_of_f v steps = record { name = codes "f"; args = v ∷ []; left = steps }
+
+-- what `f(X) -> E` in a module of one function does
+module _ (dot : ℕ) (e : Node ExprKind) where
+  abbrev small_code : Code
+  small_code = code_of (small_module dot e) []
+
+  small-runs : (v : V.Value) (steps : ℕ) → apply small_code (V.named_fun (codes "f") 1) (v ∷ []) (suc steps) ≡ R.with_calls (call_of_f v steps ∷ []) (R.run_expression small_code (apply small_code) e 0 (with_x v) steps)
+  small-runs v steps = small-applied (codes "f") 3 dot (codes "X") e refl small_code 0 (first-found (codes "f") 3 dot (codes "X") e [] 0) v steps
+
 pub identity-gives : apply (code_of identity []) (V.named_fun (codes "f") 1) (V.integer (pos 7) ∷ []) 5 ≡ record { outcome = V.came (V.integer (pos 7)); left = 4; calls = record { name = codes "f"; args = V.integer (pos 7) ∷ []; left = 4 } ∷ [] }
-unfolding apply_within Rattle.erl_tree.specs.declared.type_expr.TypeKind.TheViews.out-TypeKind denote.Hole.Carrier.out Rattle.erl_tree.specs.declared.pattern.PatternKind.TheViews.out-PatternKind Rattle.erl_tree.specs.declared.expr.ExprKind.TheViews.out-ItemKind Rattle.erl_tree.specs.declared.expr.ExprKind.TheBlock.shown-the_row-ExprKind-0 denote.Hole.Carrier.shown denote.Hole.Carrier.hidden
-identity-gives = simp run_laws refl
+identity-gives = small-runs 10 (leaf 3 9 (E.Var (codes "X"))) (V.integer (pos 7)) 4
+    ∙ ap (λ r. R.with_calls (call_of_f (V.integer (pos 7)) 4 ∷ []) r) (runs-Var [] (R.arity_of (code_of identity [])) (apply (code_of identity [])) (codes "X") 0 (with_x (V.integer (pos 7))) 4)
 
 pub unbound-wrong : (apply (code_of X.unbound []) (V.named_fun (codes "f") 1) (V.integer (pos 7) ∷ []) 5).outcome ≡ V.wrong
-unfolding apply_within Rattle.erl_tree.specs.declared.type_expr.TypeKind.TheViews.out-TypeKind denote.Hole.Carrier.out Rattle.erl_tree.specs.declared.pattern.PatternKind.TheViews.out-PatternKind Rattle.erl_tree.specs.declared.expr.ExprKind.TheViews.out-ItemKind Rattle.erl_tree.specs.declared.expr.ExprKind.TheBlock.shown-the_row-ExprKind-0 denote.Hole.Carrier.shown denote.Hole.Carrier.hidden
-unbound-wrong = simp run_laws refl
+unbound-wrong = ap (λ r. r.outcome) (small-runs 10 (leaf 3 9 (E.Var (codes "Y"))) (V.integer (pos 7)) 4)
+    ∙ ap (λ r. r.outcome) (runs-Var [] (R.arity_of (code_of X.unbound [])) (apply (code_of X.unbound [])) (codes "Y") 0 (with_x (V.integer (pos 7))) 4)
 
 pub arity-wrong : (apply (code_of identity []) (V.named_fun (codes "f") 2) (V.integer (pos 7) ∷ []) 5).outcome ≡ V.wrong
 unfolding apply_within
@@ -255,12 +274,35 @@ unfolding apply_within
 none-goes = refl
 
 constant-gives : (apply (code_of constant []) (V.named_fun (codes "f") 1) (V.integer (pos 7) ∷ []) 1).outcome ≡ V.came (V.atom (codes "a"))
-unfolding apply_within Rattle.erl_tree.specs.declared.type_expr.TypeKind.TheViews.out-TypeKind denote.Hole.Carrier.out Rattle.erl_tree.specs.declared.pattern.PatternKind.TheViews.out-PatternKind Rattle.erl_tree.specs.declared.expr.ExprKind.TheViews.out-ItemKind Rattle.erl_tree.specs.declared.expr.ExprKind.TheBlock.shown-the_row-ExprKind-0 denote.Hole.Carrier.shown denote.Hole.Carrier.hidden
-constant-gives = simp run_laws refl
+constant-gives = ap (λ r. r.outcome) (small-runs 10 (leaf 3 9 (E.Atom (codes "a"))) (V.integer (pos 7)) 0)
+    ∙ ap (λ r. r.outcome) (runs-Atom [] (R.arity_of (code_of constant [])) (apply (code_of constant [])) (codes "a") 0 (with_x (V.integer (pos 7))) 0)
+
+abbrev recursive_code : Code
+recursive_code = code_of recursive []
+
+-- `X - 1` where X is an integer
+one_less-runs : (n : ℤ) (steps : ℕ) → R.run_expression recursive_code (apply recursive_code) X.one_less 0 (with_x (V.integer n)) steps ≡ R.gives (V.integer (n -ℤ pos 1)) steps
+unfolding R.then
+one_less-runs n steps =
+    runs-Binary [] (R.arity_of recursive_code) (apply recursive_code) Sub (leaf 3 11 (E.Var (codes "X"))) (leaf 3 15 (E.Int (pos 1))) 0 (with_x (V.integer n)) steps
+    ∙ (ap (λ r. R.then r (λ v left. R.run_operator Sub v (λ rest. (one (leaf 3 15 (E.Int (pos 1)))).run behind_x (with_x (V.integer n)) rest) left)) (runs-Var [] (R.arity_of recursive_code) (apply recursive_code) (codes "X") 0 (with_x (V.integer n)) steps)
+    ∙ ap (λ r. R.then r (λ w left. R.ends (operate Sub (V.integer n) w) left)) (runs-Int [] (R.arity_of recursive_code) (apply recursive_code) (pos 1) behind_x (with_x (V.integer n)) steps))
+  where
+    one : Node ExprKind → R.Part V.Value
+    one e = expr_part [] (R.arity_of recursive_code) (apply recursive_code) e
+
+    behind_x : ℕ
+    behind_x = R.behind 0 (one (leaf 3 11 (E.Var (codes "X")))).funs
+
+-- `f(X) -> f(X - 1).` goes on with the call for the next integer
+recursive-runs : (n : ℤ) (steps : ℕ) → apply recursive_code (V.named_fun (codes "f") 1) (V.integer n ∷ []) (suc steps) ≡ R.with_calls (call_of_f (V.integer n) steps ∷ []) (apply recursive_code (V.named_fun (codes "f") 1) (V.integer (n -ℤ pos 1) ∷ []) steps)
+recursive-runs n steps = small-runs 17 recursive_call (V.integer n) steps
+    ∙ ap (λ r. R.with_calls (call_of_f (V.integer n) steps ∷ []) r) (call-runs recursive_code (apply recursive_code) X.one_less (V.integer (n -ℤ pos 1)) 0 (with_x (V.integer n)) steps (one_less-runs n steps))
 
 pub recursive-goes : (apply (code_of recursive []) (V.named_fun (codes "f") 1) (V.integer (pos 7) ∷ []) 2) ≡ record { outcome = V.going; left = 0; calls = record { name = codes "f"; args = V.integer (pos 7) ∷ []; left = 1 } ∷ record { name = codes "f"; args = V.integer (pos 6) ∷ []; left = 0 } ∷ [] }
-unfolding apply_within Running.then Rattle.erl_tree.specs.declared.type_expr.TypeKind.TheViews.out-TypeKind denote.Hole.Carrier.out Rattle.erl_tree.specs.declared.pattern.PatternKind.TheViews.out-PatternKind Rattle.erl_tree.specs.declared.expr.ExprKind.TheViews.out-ItemKind Rattle.erl_tree.specs.declared.expr.ExprKind.TheBlock.shown-the_row-ExprKind-0 denote.Hole.Carrier.shown denote.Hole.Carrier.hidden
-recursive-goes = simp run_laws refl
+recursive-goes = recursive-runs (pos 7) 1
+    ∙ ap (λ r. R.with_calls (call_of_f (V.integer (pos 7)) 1 ∷ []) r) (recursive-runs (pos 6) 0
+    ∙ ap (λ r. R.with_calls (call_of_f (V.integer (pos 6)) 0 ∷ []) r) (apply-none recursive_code (V.named_fun (codes "f") 1) (V.integer (pos 5) ∷ [])))
 
 pub constant-not_safe : IsSafe constant (specs_of constant) given_definitions → ⊥
 unfolding Rattle.erl_tree.specs.declared.type_expr.TypeKind.TheViews.out-TypeKind denote.Hole.Carrier.out Rattle.erl_tree.specs.declared.pattern.PatternKind.TheViews.out-PatternKind Rattle.erl_tree.specs.declared.expr.ExprKind.TheViews.out-ItemKind Rattle.erl_tree.specs.declared.expr.ExprKind.TheBlock.shown-the_row-ExprKind-0 denote.Hole.Carrier.shown denote.Hole.Carrier.hidden
@@ -361,9 +403,48 @@ pub second-flat : IsFlatModule second_call_wrong
 unfolding Rattle.erl_tree.specs.declared.type_expr.TypeKind.TheViews.out-TypeKind denote.Hole.Carrier.out Rattle.erl_tree.specs.declared.pattern.PatternKind.TheViews.out-PatternKind Rattle.erl_tree.specs.declared.expr.ExprKind.TheViews.out-ItemKind Rattle.erl_tree.specs.declared.expr.ExprKind.TheBlock.shown-the_row-ExprKind-0 denote.Hole.Carrier.shown denote.Hole.Carrier.hidden
 second-flat = flat-module second_call_wrong second-formed second-readable ((((λ x. x), tt), tt), ((((λ x. x), tt), tt), tt)) (((simp called_laws tt, tt), tt), (((two-own, tt), tt), tt)) second-within limit-second
 
+abbrev second_code : Code
+second_code = code_of second_call_wrong []
+
+-- the number behind the fun expressions in `f`
+abbrev second_first : ℕ
+second_first = R.behind 0 (R.funs_in_function (small_function (codes "f") 3 10 (codes "X") (leaf 3 9 (E.Var (codes "X")))))
+
+abbrev with_y : V.Environment
+with_y = with_variable (codes "Y") (V.atom (codes "a")) V.no_bindings
+
+-- `f` gives its argument back
+f-gives : (v : V.Value) (steps : ℕ) → apply second_code (V.named_fun (codes "f") 1) (v ∷ []) (suc steps) ≡ record { outcome = V.came v; left = steps; calls = call_of_f v steps ∷ [] }
+f-gives v steps = small-applied (codes "f") 3 10 (codes "X") (leaf 3 9 (E.Var (codes "X"))) refl second_code 0 (first-found (codes "f") 3 10 (codes "X") (leaf 3 9 (E.Var (codes "X"))) ((small_function (codes "g") 5 20 (codes "Y") two_calls, second_first) ∷ []) 0) v steps
+    ∙ ap (λ r. R.with_calls (call_of_f v steps ∷ []) r) (runs-Var [] (R.arity_of second_code) (apply second_code) (codes "X") 0 (with_x v) steps)
+
+-- `f(1)`, and `f(Y)`
+one-gives : (first steps : ℕ) → R.run_expression second_code (apply second_code) (X.small_call 9 (E.Int (pos 1))) first with_y (suc steps) ≡ record { outcome = V.came (V.integer (pos 1)); left = steps; calls = call_of_f (V.integer (pos 1)) steps ∷ [] }
+one-gives first steps = call-runs second_code (apply second_code) (leaf 5 11 (E.Int (pos 1))) (V.integer (pos 1)) first with_y (suc steps) (runs-Int [] (R.arity_of second_code) (apply second_code) (pos 1) first with_y (suc steps))
+    ∙ f-gives (V.integer (pos 1)) steps
+
+a-gives : (first steps : ℕ) → R.run_expression second_code (apply second_code) (X.small_call 16 (E.Var (codes "Y"))) first with_y (suc steps) ≡ record { outcome = V.came (V.atom (codes "a")); left = steps; calls = call_of_f (V.atom (codes "a")) steps ∷ [] }
+a-gives first steps = call-runs second_code (apply second_code) (leaf 5 18 (E.Var (codes "Y"))) (V.atom (codes "a")) first with_y (suc steps) (runs-Var [] (R.arity_of second_code) (apply second_code) (codes "Y") first with_y (suc steps))
+    ∙ f-gives (V.atom (codes "a")) steps
+
+-- `f(1) + f(Y)`, where Y is `a`
+two-wrong : (first : ℕ) → (R.run_expression second_code (apply second_code) two_calls first with_y 2).outcome ≡ V.wrong
+unfolding R.then
+two-wrong first =
+    ap (λ r. r.outcome) (runs-Binary [] (R.arity_of second_code) (apply second_code) Add (X.small_call 9 (E.Int (pos 1))) (X.small_call 16 (E.Var (codes "Y"))) first with_y 2)
+    ∙ (ap (λ r. (R.then r (λ v left. R.run_operator Add v (λ rest. (one (X.small_call 16 (E.Var (codes "Y")))).run behind_one with_y rest) left)).outcome) (one-gives first 1)
+    ∙ ap (λ r. (R.then r (λ w left. R.ends (operate Add (V.integer (pos 1)) w) left)).outcome) (a-gives behind_one 0))
+  where
+    one : Node ExprKind → R.Part V.Value
+    one e = expr_part [] (R.arity_of second_code) (apply second_code) e
+
+    behind_one : ℕ
+    behind_one = R.behind first (one (X.small_call 9 (E.Int (pos 1)))).funs
+
 pub second-wrong : (apply (code_of second_call_wrong []) (V.named_fun (codes "g") 1) (V.atom (codes "a") ∷ []) 3).outcome ≡ V.wrong
-unfolding apply_within Running.then Rattle.erl_tree.specs.declared.type_expr.TypeKind.TheViews.out-TypeKind denote.Hole.Carrier.out Rattle.erl_tree.specs.declared.pattern.PatternKind.TheViews.out-PatternKind Rattle.erl_tree.specs.declared.expr.ExprKind.TheViews.out-ItemKind Rattle.erl_tree.specs.declared.expr.ExprKind.TheBlock.shown-the_row-ExprKind-0 denote.Hole.Carrier.shown denote.Hole.Carrier.hidden
-second-wrong = simp run_laws refl
+second-wrong =
+    ap (λ r. r.outcome) (small-applied (codes "g") 5 20 (codes "Y") two_calls refl second_code second_first (first-found (codes "g") 5 20 (codes "Y") two_calls [] second_first) (V.atom (codes "a")) 2)
+    ∙ two-wrong second_first
 
 wrong-good : (o : V.Outcome V.Value) (p : V.Value → Type 0) → o ≡ V.wrong → ends_well o p → ⊥
 wrong-good o p e h = subst (λ z. ends_well z p) e h

@@ -1,11 +1,11 @@
 -- Two ways of applying that agree up to n steps give runs that agree up to n steps. So a bound that is at least the number of steps changes no run, and an application runs its function with one step less.
 use Rattle.std.proofs.Common.{◌≡◌, refl, ◌∙◌, ap, ℕ, zero, suc, ◌<◌, ◌≤◌, List, [], ◌∷◌, ◌++◌, length, arith}
-use Rattle.std.specs.Prelude.{nat_eq}
-use Rattle.erl_tree.specs.Functions.{find_function}
-use Rattle.erl_runs.specs.Value.{Value, named_fun, Outcome, came, raised, wrong, going, Call, Run}
+use Rattle.std.specs.Prelude.{nat_eq, slice_get}
+use Rattle.erl_tree.specs.declared.expr.ExprKind.{ExprKind}
+use Rattle.erl_runs.specs.Value.{Value, named_fun, closure, Environment, Outcome, came, raised, wrong, going, Call, Run}
 use Rattle.erl_runs.specs.Membership.{calls_below}
-use Rattle.erl_runs.specs.Running.{still_going, with_calls, go_on, then, Applies, Code, enter, apply_within, apply}
-use Rattle.erl_runs.proofs.AlikeRuns.{RunRelation, function-like, cond-like}
+use Rattle.erl_runs.specs.Running.{ends, still_going, with_calls, go_on, then, finally, run_kind, Applies, Code, arity_of, find_numbered, enter, apply_within, apply}
+use Rattle.erl_runs.proofs.AlikeRuns.{RunRelation, Like, run_function-like, run_closure-like, cond-like}
 
 le-here : (n : ℕ) → n ≤ n
 le-here n = omega arith
@@ -36,13 +36,21 @@ then-same A B n r q f g s h =
     let a : Same B n (go_on r.outcome r.left f) (go_on r.outcome r.left g) = go_on-same A B r.outcome r.left n f g s.spends h in
     record { same = ap (λ t. with_calls r.calls t) a.same ∙ ap (λ t. then t g) s.same; spends = a.spends; calls = below-join n r.calls _ s.calls a.calls }
 
+last-same : (n : ℕ) (r q : Run Value) (f g : Outcome Value → ℕ → Run Value) → Same Value n r q → ((k : ℕ) → f going k ≡ still_going k) → ((o : Outcome Value) (k : ℕ) → k ≤ n → Same Value k (f o k) (g o k)) → Same Value n (finally r f) (finally q g)
+unfolding finally
+last-same n r q f g s e h =
+    let a : Same Value r.left (f r.outcome r.left) (g r.outcome r.left) = h r.outcome r.left s.spends in
+    let l : r.left ≤ n = s.spends in
+    let k : (f r.outcome r.left).left ≤ r.left = a.spends in
+    record { same = ap (λ t. with_calls r.calls t) a.same ∙ ap (λ t. finally t g) s.same; spends = omega arith; calls = below-join n r.calls _ s.calls (below-more r.left n l (f r.outcome r.left).calls a.calls) }
+
 abbrev sameness : RunRelation
 sameness = record {
   shift = λ m. m;
   relates = Same;
-  at_end = λ A a m. record { same = refl; spends = le-here m; calls = tt };
-  at_wrong = λ A m. record { same = refl; spends = le-here m; calls = tt };
+  at_end = λ A o u e m. record { same = λ j. ends (e j) m; spends = le-here m; calls = tt };
   in_turn = then-same;
+  at_last = last-same;
 }
 
 -- one run of an application with m + 1 steps: at most m are left, and no more for each of its calls
@@ -57,11 +65,16 @@ up m r q s = record { same = s.same; spends = s.spends; calls = below-more m (su
 listed-same : (c : Call) (m : ℕ) (r q : Run Value) → c.left < suc m → Step m r q → Step m (with_calls (c ∷ []) r) (with_calls (c ∷ []) q)
 listed-same c m r q l s = record { same = ap (λ t. with_calls (c ∷ []) t) s.same; spends = s.spends; calls = (l, s.calls) }
 
--- ways of applying that agree up to n steps enter a function alike
-pub enter-same : (code : Code) (p q : Applies) (n : ℕ) → ((f : Value) (args : List Value) (m : ℕ) → m ≤ n → Same Value m (p f args m) (q f args m)) → (f : Value) (args : List Value) (m : ℕ) → m ≤ n → Step m (enter code p f args m) (enter code q f args m)
-enter-same code p q n h (named_fun name arity) args m l =
-    listed-same (record { name = name; args = args; left = m }) m _ _ (omega arith) (up m _ _ (cond-like sameness (nat_eq arity (length args)) m _ _ (function-like sameness p q n h (find_function code.functions name arity) args m l)))
-enter-same code p q n h _ args m l = up m _ _ (sameness.at_wrong Value m)
+-- ways of applying that agree up to n steps enter a fun alike
+module _ (code : Code) (p q : Applies) (n : ℕ) (agree : (f : Value) (args : List Value) (m : ℕ) → m ≤ n → Same Value m (p f args m) (q f args m)) where
+  tests-same : (t : ExprKind) → Like sameness n (run_kind code.records (arity_of code) p t) (run_kind code.records (arity_of code) q t) → (environment : Environment) → ((run_kind code.records (arity_of code) p t).run 0 environment 0).outcome ≡ ((run_kind code.records (arity_of code) q t).run 0 environment 0).outcome
+  tests-same t h environment = ap (λ r. r.outcome) (h.runs 0 0 refl environment 0 (omega arith)).same
+
+  pub enter-same : (f : Value) (args : List Value) (m : ℕ) → m ≤ n → Step m (enter code p f args m) (enter code q f args m)
+  enter-same (named_fun name arity) args m l =
+      listed-same (record { name = name; args = args; left = m }) m _ _ (omega arith) (up m _ _ (cond-like sameness (nat_eq arity (length args)) m _ _ (run_function-like sameness code p q n agree tests-same (find_numbered code.functions name arity) args m l)))
+  enter-same (closure number environment) args m l = up m _ _ (run_closure-like sameness code p q n agree tests-same (slice_get code.funs number) number environment args m l)
+  enter-same _ args m l = up m _ _ (sameness.at_end Value wrong wrong refl m)
 
 taken : (m : ℕ) (r q : Run Value) → Step m r q → Same Value (suc m) r q
 taken m r q s = let h : r.left ≤ m = s.spends in record { same = s.same; spends = omega arith; calls = s.calls }

@@ -1,5 +1,5 @@
--- The equations of the terms of types, and of the variables, the calls and the runs of expressions: one for each form of a flat module.
-use Rattle.std.proofs.Common.{◌≡◌, refl, ap, sym, ◌∙◌, ℕ, ℤ, suc, List, [], ◌∷◌, ◌++◌, length}
+-- The equations of the terms of types, and of the variables and the calls of expressions: one for each form of a flat module.
+use Rattle.std.proofs.Common.{◌≡◌, refl, ap, sym, ◌∙◌, ℤ, suc, List, [], ◌∷◌, ◌++◌, length}
 use Rattle.std.specs.Prelude.{Option, Some, None, neg_ℤ}
 use Rattle.type_terms.specs.Keys.{Name}
 use Rattle.type_terms.specs.declared.term.Term.{Term, AtomLit, Or}
@@ -16,10 +16,6 @@ use Rattle.erl_tree.specs.declared.expr.ExprKind.TheShapes as S
 use Rattle.erl_tree.specs.Functions.{FunctionId, of_function}
 use Rattle.erl_runs.specs.Specs.{one_integer, end_of, range, built_in_type, and_then, type_term_layer, type_kind_term, type_term}
 use Rattle.erl_runs.specs.Readable.{together, used_layer, used_in, called_layer, called_in}
-use Rattle.erl_runs.specs.Value.{Value, integer, named_fun, Environment, Run}
-use Rattle.erl_runs.specs.Value as V
-use Rattle.erl_runs.specs.Matching.{variable_value}
-use Rattle.erl_runs.specs.Running.{gives, gives_found, then, Does, Applies, operate, run_all, run_layer, run_kind, run_expression}
 
 -- ---- the terms of types
 
@@ -130,41 +126,3 @@ called_in-Call name args = ap (λ k. called_in k) (sym (X.rolls-Call None name a
 pub ruleset used_laws = (used_in-Int, used_in-Atom, used_in-Var, used_in-Paren, used_in-Binary, used_in-Call)
 
 pub ruleset called_laws = (called_in-Int, called_in-Atom, called_in-Var, called_in-Paren, called_in-Binary, called_in-Call)
-
--- ---- runs of expressions
-
--- expressions in turn, from left to right
-abbrev pub run_args : Applies → List (Node ExprKind) → Environment → ℕ → Run (List Value)
-run_args apply [] environment steps = gives [] steps
-run_args apply (e ∷ es) environment steps = then (run_expression apply e environment steps) (λ v left. then (run_args apply es environment left) (λ vs rest. gives (v ∷ vs) rest))
-
-run_each : (apply : Applies) (es : List (Node ExprKind)) → run_all (S.former-ExprKind-Tuple-0.map ExprKind Does (fold-ExprKind Does (Unit {0}) (Unit {0}) (Unit {0}) (Unit {0}) (Unit {0}) (run_layer apply) (λ i. tt) (λ q. tt) (λ a. tt) (λ c. tt) (λ c. tt)) es) ≡ run_args apply es
-unfolding run_kind
-run_each apply [] = refl
-run_each apply (e ∷ es) = ap (λ (r : Environment → ℕ → Run (List Value)). λ environment steps. then (run_expression apply e environment steps) (λ v left. then (r environment left) (λ vs rest. gives (v ∷ vs) rest))) (run_each apply es)
-
-pub run_kind-Int : (apply : Applies) (n : ℤ) (environment : Environment) (steps : ℕ) → run_kind apply (X.Int n) environment steps ≡ gives (integer n) steps
-unfolding run_kind
-run_kind-Int apply n environment steps = ap (λ k. run_kind apply k environment steps) (sym (X.rolls-Int n)) ∙ ap (λ (f : Does). f environment steps) (fold-roll-ExprKind Does (Unit {0}) (Unit {0}) (Unit {0}) (Unit {0}) (Unit {0}) (run_layer apply) (λ i. tt) (λ q. tt) (λ a. tt) (λ c. tt) (λ c. tt) (E.Int n))
-
-pub run_kind-Atom : (apply : Applies) (a : Name) (environment : Environment) (steps : ℕ) → run_kind apply (X.Atom a) environment steps ≡ gives (V.atom a) steps
-unfolding run_kind
-run_kind-Atom apply a environment steps = ap (λ k. run_kind apply k environment steps) (sym (X.rolls-Atom a)) ∙ ap (λ (f : Does). f environment steps) (fold-roll-ExprKind Does (Unit {0}) (Unit {0}) (Unit {0}) (Unit {0}) (Unit {0}) (run_layer apply) (λ i. tt) (λ q. tt) (λ a. tt) (λ c. tt) (λ c. tt) (E.Atom a))
-
-pub run_kind-Var : (apply : Applies) (x : Name) (environment : Environment) (steps : ℕ) → run_kind apply (X.Var x) environment steps ≡ gives_found (variable_value environment x) steps
-unfolding run_kind
-run_kind-Var apply x environment steps = ap (λ k. run_kind apply k environment steps) (sym (X.rolls-Var x)) ∙ ap (λ (f : Does). f environment steps) (fold-roll-ExprKind Does (Unit {0}) (Unit {0}) (Unit {0}) (Unit {0}) (Unit {0}) (run_layer apply) (λ i. tt) (λ q. tt) (λ a. tt) (λ c. tt) (λ c. tt) (E.Var x))
-
-pub run_kind-Paren : (apply : Applies) (e : Node ExprKind) (environment : Environment) (steps : ℕ) → run_kind apply (X.Paren e) environment steps ≡ run_expression apply e environment steps
-unfolding run_kind
-run_kind-Paren apply e environment steps = ap (λ k. run_kind apply k environment steps) (sym (X.rolls-Paren e)) ∙ ap (λ (f : Does). f environment steps) (fold-roll-ExprKind Does (Unit {0}) (Unit {0}) (Unit {0}) (Unit {0}) (Unit {0}) (run_layer apply) (λ i. tt) (λ q. tt) (λ a. tt) (λ c. tt) (λ c. tt) (E.Paren e))
-
-pub run_kind-Binary : (apply : Applies) (op : BinaryOp) (a b : Node ExprKind) (environment : Environment) (steps : ℕ) → run_kind apply (X.Binary op a b) environment steps ≡ then (run_expression apply a environment steps) (λ v left. then (run_expression apply b environment left) (λ w rest. operate op v w rest))
-unfolding run_kind
-run_kind-Binary apply op a b environment steps = ap (λ k. run_kind apply k environment steps) (sym (X.rolls-Binary op a b)) ∙ ap (λ (f : Does). f environment steps) (fold-roll-ExprKind Does (Unit {0}) (Unit {0}) (Unit {0}) (Unit {0}) (Unit {0}) (run_layer apply) (λ i. tt) (λ q. tt) (λ a. tt) (λ c. tt) (λ c. tt) (E.Binary op a b))
-
-pub run_kind-Call : (apply : Applies) (name : Name) (args : List (Node ExprKind)) (environment : Environment) (steps : ℕ) → run_kind apply (X.Call None name args) environment steps ≡ then (run_args apply args environment steps) (λ vs left. apply (named_fun name (length vs)) vs left)
-unfolding run_kind
-run_kind-Call apply name args environment steps = ap (λ k. run_kind apply k environment steps) (sym (X.rolls-Call None name args)) ∙ (ap (λ (f : Does). f environment steps) (fold-roll-ExprKind Does (Unit {0}) (Unit {0}) (Unit {0}) (Unit {0}) (Unit {0}) (run_layer apply) (λ i. tt) (λ q. tt) (λ a. tt) (λ c. tt) (λ c. tt) (E.Call None name args)) ∙ ap (λ (r : Environment → ℕ → Run (List Value)). then (r environment steps) (λ vs left. apply (named_fun name (length vs)) vs left)) (run_each apply args))
-
-pub ruleset run_laws = (run_kind-Int, run_kind-Atom, run_kind-Var, run_kind-Paren, run_kind-Binary, run_kind-Call)

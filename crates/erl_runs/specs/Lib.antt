@@ -2,8 +2,12 @@ pub mod Specs
 pub mod Readable
 pub mod Value
 pub mod FiniteMaps
+pub mod TermInstances
 pub mod Membership
+pub mod Order
+pub mod Records
 pub mod Matching
+pub mod Operations
 pub mod Running
 pub mod Safety
 pub mod SmallTrees

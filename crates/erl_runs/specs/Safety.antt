@@ -1,4 +1,4 @@
--- When a module and a text are safe: the claim that an accepted text keeps. It is said of every module; but what names are used rightly (`Readable`) and what runs do (`Running`) is written for flat modules so far, and a text is accepted only where its module is flat.
+-- When a module and a text are safe: the claim that an accepted text keeps. It is said of every module, and runs (`Running`) are those of every form. Only when names are used rightly (`Readable`) and the terms of specs (`Specs`) are written for flat modules so far, and a text is accepted only where its module is flat.
 use Rattle.std.specs.Prelude.{◌≡◌, ℕ, List}
 use Rattle.std.specs.List.{Contains}
 use Rattle.type_terms.specs.declared.term.Def.{Def}
@@ -37,7 +37,7 @@ IsSafe m specs defs =
     AlwaysIn (program_of (code_of m outside) specs defs) args arrow.params i →
     IsRightRun (program_of (code_of m outside) specs defs) (apply (code_of m outside) (named_fun f.name (clauses_arity f.clauses)) args steps) arrow.result i
 
--- the bytes spell exactly one module, in which names are used rightly (as far as that is written), and which is safe
+-- the bytes spell exactly one module, in which names are used rightly (which is written for flat parts so far), and which is safe
 pub record IsSafeText (bytes : List ℕ) : Type 0 where
   pub tree : Module
   pub spelled : SpellsModule bytes tree

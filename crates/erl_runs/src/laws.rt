@@ -1,4 +1,4 @@
-//! Laws of the definitions of values, of membership and of runs, each the contract of a function that does
+//! Laws of the definitions of values and of membership, each the contract of a function that does
 //! nothing. `InTerm program k v t defs inst` says that the value `v` is in the term `t` at level `k`,
 //! with names read by `defs` and variables by `inst`.
 
@@ -7,14 +7,11 @@ ghost use Rattle.std.specs.Prelude.{
   ◌≡◌,
   ◌≢◌,
   ◌<◌,
-  ◌≤◌,
-  ◌+◌,
   ◌≤ℤ◌,
   ◌⊎◌,
   ◌↔◌,
   ℕ,
   ℤ,
-  zero,
   suc,
   true,
   List,
@@ -24,7 +21,6 @@ ghost use Rattle.std.specs.Prelude.{
   length,
   slice_get,
 };
-ghost use Rattle.type_terms.specs.declared.spec.FunSpec.{FunSpec};
 ghost use Rattle.type_terms.specs.declared.term.Def.{Def};
 ghost use Rattle.type_terms.specs.declared.term.Field.{Field};
 ghost use Rattle.type_terms.specs.declared.term.Key.{Key};
@@ -55,14 +51,6 @@ ghost use Rattle.type_terms.specs.Reading.{if_some, term_for};
 ghost use Rattle.type_terms.specs.Replacement.{replaced_by};
 ghost use Rattle.erl_runs.specs.FiniteMaps.{get, insert};
 ghost use Rattle.erl_runs.specs.Membership.{Program, Spends, InTerm, IsGoodRun, values_in};
-ghost use Rattle.erl_runs.specs.Running.{
-  Code,
-  program_of,
-  still_going,
-  enter,
-  apply_within,
-  apply,
-};
 ghost use Rattle.erl_runs.specs.Value.{
   Value,
   integer,
@@ -71,7 +59,6 @@ ghost use Rattle.erl_runs.specs.Value.{
   cons,
   tuple,
   map_of,
-  going,
   Values,
   items_of,
   IsFun,
@@ -171,34 +158,6 @@ pub fn funs()
         (IsFun f × (program.arity f ≡ length parameters)
         × ((m : ℕ) (args : List Value) → m < k → values_in (InTerm program m) args parameters defs inst →
         IsGoodRun program (program.apply f args (suc m)) result defs inst)) }
-{}
-
-/// An application spends a step in every program that is run: fewer are left after it, and for each
-/// call in it. So the law of funs holds of these programs.
-pub fn programs_spend_steps()
-    ensures { (code : Code) (specs : List FunSpec) (defs : List Def) → Spends (program_of code specs defs) }
-{}
-
-/// An application takes a step and then runs its function, whose own applications do the same: the
-/// equation that the definition of a run is meant to satisfy. Without a step it is still going.
-pub fn an_application_runs_its_function()
-    ensures step { (code : Code) (f : Value) (args : List Value) (steps : ℕ) →
-        apply code f args (suc steps) ≡ enter code (apply code) f args steps }
-    ensures no_step { (code : Code) (f : Value) (args : List Value) → apply code f args zero ≡ still_going zero }
-{}
-
-/// The bound on how deep applications stand in one another changes no run, where it is at least the
-/// number of steps.
-pub fn the_bound_changes_nothing()
-    ensures { (code : Code) (bound : ℕ) (f : Value) (args : List Value) (steps : ℕ) → steps ≤ bound →
-        apply_within code bound f args steps ≡ apply code f args steps }
-{}
-
-/// A run that ended ends the same with more steps, and has as many more left.
-pub fn more_steps_change_no_end()
-    ensures { (code : Code) (f : Value) (args : List Value) (steps more : ℕ) → (apply code f args steps).outcome ≢ going →
-        ((apply code f args (steps + more)).outcome ≡ (apply code f args steps).outcome)
-        × ((apply code f args (steps + more)).left ≡ (apply code f args steps).left + more) }
 {}
 
 /// A value that isn't outside a term is in it.

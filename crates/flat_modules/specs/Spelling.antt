@@ -1,5 +1,5 @@
 -- The tokens of a flat module, which are those that it has in the grammar of all modules.
--- This part has specs of one clause over integers, plain atoms, ranges, types without arguments, parentheses and unions, and functions of one clause without a guard, whose parameters are variables and whose body is one expression of integers, atoms, variables, parentheses, `+`, `-`, `*` and calls. Other forms have no tokens here. A head may name a variable twice, as the grammar has it; such a function goes wrong when it is run, until equality of values is written.
+-- This part has specs of one clause over integers, plain atoms, ranges, types without arguments, parentheses and unions, and functions of one clause without a guard, whose parameters are variables and whose body is one expression of integers, atoms, variables, parentheses, `+`, `-`, `*` and calls. Other forms have no tokens here. A head may name a variable twice, as the grammar has it; such a function asks for equal arguments, and its module isn't flat.
 -- A word that ends in `_layer` says something of one level of a tree.
 use Rattle.std.specs.Prelude.{ℕ, List, [], ◌∷◌, ◌++◌, map, Option, Some, None, codes}
 use Rattle.erl_tree.specs.declared.token.Place.{Place}

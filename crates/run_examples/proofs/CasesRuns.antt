@@ -3,79 +3,79 @@ use Rattle.std.proofs.Common.{refl}
 use Rattle.run_examples.specs.Cases.{Cases, cases_1, cases_2, cases_3, cases_4, cases_5, cases_6, cases_7, cases_8, cases_9, cases_10, cases_11, cases_12, cases_13, cases_14, cases_15, cases_16, cases_17, cases_18, cases_19}
 use Rattle.run_examples.proofs.Levels.{computed, outcome_in_levels}
 
-cases_1-runs : cases_1
+pub cases_1-runs : cases_1
 unfolding outcome_in_levels
 cases_1-runs = computed _ _ _ _ refl
 
-cases_2-runs : cases_2
+pub cases_2-runs : cases_2
 unfolding outcome_in_levels
 cases_2-runs = computed _ _ _ _ refl
 
-cases_3-runs : cases_3
+pub cases_3-runs : cases_3
 unfolding outcome_in_levels
 cases_3-runs = computed _ _ _ _ refl
 
-cases_4-runs : cases_4
+pub cases_4-runs : cases_4
 unfolding outcome_in_levels
 cases_4-runs = computed _ _ _ _ refl
 
-cases_5-runs : cases_5
+pub cases_5-runs : cases_5
 unfolding outcome_in_levels
 cases_5-runs = computed _ _ _ _ refl
 
-cases_6-runs : cases_6
+pub cases_6-runs : cases_6
 unfolding outcome_in_levels
 cases_6-runs = computed _ _ _ _ refl
 
-cases_7-runs : cases_7
+pub cases_7-runs : cases_7
 unfolding outcome_in_levels
 cases_7-runs = computed _ _ _ _ refl
 
-cases_8-runs : cases_8
+pub cases_8-runs : cases_8
 unfolding outcome_in_levels
 cases_8-runs = computed _ _ _ _ refl
 
-cases_9-runs : cases_9
+pub cases_9-runs : cases_9
 unfolding outcome_in_levels
 cases_9-runs = computed _ _ _ _ refl
 
-cases_10-runs : cases_10
+pub cases_10-runs : cases_10
 unfolding outcome_in_levels
 cases_10-runs = computed _ _ _ _ refl
 
-cases_11-runs : cases_11
+pub cases_11-runs : cases_11
 unfolding outcome_in_levels
 cases_11-runs = computed _ _ _ _ refl
 
-cases_12-runs : cases_12
+pub cases_12-runs : cases_12
 unfolding outcome_in_levels
 cases_12-runs = computed _ _ _ _ refl
 
-cases_13-runs : cases_13
+pub cases_13-runs : cases_13
 unfolding outcome_in_levels
 cases_13-runs = computed _ _ _ _ refl
 
-cases_14-runs : cases_14
+pub cases_14-runs : cases_14
 unfolding outcome_in_levels
 cases_14-runs = computed _ _ _ _ refl
 
-cases_15-runs : cases_15
+pub cases_15-runs : cases_15
 unfolding outcome_in_levels
 cases_15-runs = computed _ _ _ _ refl
 
-cases_16-runs : cases_16
+pub cases_16-runs : cases_16
 unfolding outcome_in_levels
 cases_16-runs = computed _ _ _ _ refl
 
-cases_17-runs : cases_17
+pub cases_17-runs : cases_17
 unfolding outcome_in_levels
 cases_17-runs = computed _ _ _ _ refl
 
-cases_18-runs : cases_18
+pub cases_18-runs : cases_18
 unfolding outcome_in_levels
 cases_18-runs = computed _ _ _ _ refl
 
-cases_19-runs : cases_19
+pub cases_19-runs : cases_19
 unfolding outcome_in_levels
 cases_19-runs = computed _ _ _ _ refl
 

@@ -3,67 +3,67 @@ use Rattle.std.proofs.Common.{refl}
 use Rattle.run_examples.specs.KindsInOrder.{KindsInOrder, kinds_in_order_1, kinds_in_order_2, kinds_in_order_3, kinds_in_order_4, kinds_in_order_5, kinds_in_order_6, kinds_in_order_7, kinds_in_order_8, kinds_in_order_9, kinds_in_order_10, kinds_in_order_11, kinds_in_order_12, kinds_in_order_13, kinds_in_order_14, kinds_in_order_15, kinds_in_order_16}
 use Rattle.run_examples.proofs.Levels.{computed, outcome_in_levels}
 
-kinds_in_order_1-runs : kinds_in_order_1
+pub kinds_in_order_1-runs : kinds_in_order_1
 unfolding outcome_in_levels
 kinds_in_order_1-runs = computed _ _ _ _ refl
 
-kinds_in_order_2-runs : kinds_in_order_2
+pub kinds_in_order_2-runs : kinds_in_order_2
 unfolding outcome_in_levels
 kinds_in_order_2-runs = computed _ _ _ _ refl
 
-kinds_in_order_3-runs : kinds_in_order_3
+pub kinds_in_order_3-runs : kinds_in_order_3
 unfolding outcome_in_levels
 kinds_in_order_3-runs = computed _ _ _ _ refl
 
-kinds_in_order_4-runs : kinds_in_order_4
+pub kinds_in_order_4-runs : kinds_in_order_4
 unfolding outcome_in_levels
 kinds_in_order_4-runs = computed _ _ _ _ refl
 
-kinds_in_order_5-runs : kinds_in_order_5
+pub kinds_in_order_5-runs : kinds_in_order_5
 unfolding outcome_in_levels
 kinds_in_order_5-runs = computed _ _ _ _ refl
 
-kinds_in_order_6-runs : kinds_in_order_6
+pub kinds_in_order_6-runs : kinds_in_order_6
 unfolding outcome_in_levels
 kinds_in_order_6-runs = computed _ _ _ _ refl
 
-kinds_in_order_7-runs : kinds_in_order_7
+pub kinds_in_order_7-runs : kinds_in_order_7
 unfolding outcome_in_levels
 kinds_in_order_7-runs = computed _ _ _ _ refl
 
-kinds_in_order_8-runs : kinds_in_order_8
+pub kinds_in_order_8-runs : kinds_in_order_8
 unfolding outcome_in_levels
 kinds_in_order_8-runs = computed _ _ _ _ refl
 
-kinds_in_order_9-runs : kinds_in_order_9
+pub kinds_in_order_9-runs : kinds_in_order_9
 unfolding outcome_in_levels
 kinds_in_order_9-runs = computed _ _ _ _ refl
 
-kinds_in_order_10-runs : kinds_in_order_10
+pub kinds_in_order_10-runs : kinds_in_order_10
 unfolding outcome_in_levels
 kinds_in_order_10-runs = computed _ _ _ _ refl
 
-kinds_in_order_11-runs : kinds_in_order_11
+pub kinds_in_order_11-runs : kinds_in_order_11
 unfolding outcome_in_levels
 kinds_in_order_11-runs = computed _ _ _ _ refl
 
-kinds_in_order_12-runs : kinds_in_order_12
+pub kinds_in_order_12-runs : kinds_in_order_12
 unfolding outcome_in_levels
 kinds_in_order_12-runs = computed _ _ _ _ refl
 
-kinds_in_order_13-runs : kinds_in_order_13
+pub kinds_in_order_13-runs : kinds_in_order_13
 unfolding outcome_in_levels
 kinds_in_order_13-runs = computed _ _ _ _ refl
 
-kinds_in_order_14-runs : kinds_in_order_14
+pub kinds_in_order_14-runs : kinds_in_order_14
 unfolding outcome_in_levels
 kinds_in_order_14-runs = computed _ _ _ _ refl
 
-kinds_in_order_15-runs : kinds_in_order_15
+pub kinds_in_order_15-runs : kinds_in_order_15
 unfolding outcome_in_levels
 kinds_in_order_15-runs = computed _ _ _ _ refl
 
-kinds_in_order_16-runs : kinds_in_order_16
+pub kinds_in_order_16-runs : kinds_in_order_16
 unfolding outcome_in_levels
 kinds_in_order_16-runs = computed _ _ _ _ refl
 

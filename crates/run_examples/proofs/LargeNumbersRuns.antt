@@ -3,23 +3,23 @@ use Rattle.std.proofs.Common.{refl}
 use Rattle.run_examples.specs.LargeNumbers.{LargeNumbers, large_numbers_1, large_numbers_2, large_numbers_3, large_numbers_4, large_numbers_5}
 use Rattle.run_examples.proofs.Levels.{computed, outcome_in_levels}
 
-large_numbers_1-runs : large_numbers_1
+pub large_numbers_1-runs : large_numbers_1
 unfolding outcome_in_levels
 large_numbers_1-runs = computed _ _ _ _ refl
 
-large_numbers_2-runs : large_numbers_2
+pub large_numbers_2-runs : large_numbers_2
 unfolding outcome_in_levels
 large_numbers_2-runs = computed _ _ _ _ refl
 
-large_numbers_3-runs : large_numbers_3
+pub large_numbers_3-runs : large_numbers_3
 unfolding outcome_in_levels
 large_numbers_3-runs = computed _ _ _ _ refl
 
-large_numbers_4-runs : large_numbers_4
+pub large_numbers_4-runs : large_numbers_4
 unfolding outcome_in_levels
 large_numbers_4-runs = computed _ _ _ _ refl
 
-large_numbers_5-runs : large_numbers_5
+pub large_numbers_5-runs : large_numbers_5
 unfolding outcome_in_levels
 large_numbers_5-runs = computed _ _ _ _ refl
 

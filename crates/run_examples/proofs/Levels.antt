@@ -18,12 +18,12 @@ use Rattle.erl_tree.specs.declared.form.RecFieldKind.{RecFieldKind}
 use Rattle.erl_tree.specs.Functions.{functions_of}
 use Rattle.erl_grammar.specs.Guards.{Asks, misfit_in, misfit_layer}
 use Rattle.erl_runs.specs.Value.{Value, atom, named_fun, closure, Environment, no_bindings, throw, Outcome, Run}
-use Rattle.whole_runs.specs.Operations.{elements_of, Association}
-use Rattle.whole_runs.specs.Records as R
-use Rattle.whole_runs.specs.Records.{records_of, find_record, fields_of, have_fields, and_values, given_for, omitted, new_values, default_kind, default_layer}
-use Rattle.whole_runs.specs.Matching.{Match, match_kind, match_layer, match_pattern, match_each, match_next, match_value}
-use Rattle.whole_runs.specs.Running.{Beside, Does, Part, Choice, Applies, Code, plain, part, of, all_of, funs_in, funs_in_choices, field_parts, names_of, behind, run_all, run_body, run_clauses, taken_anew, anew, guard_holds, class_name, then, finally, gives, gives_found, goes_wrong, still_going, with_calls, run_filter, paired, tagged, new_record, run_kind, choice_kind, run_layer, run_item_layer, run_qualifier_layer, run_assoc_layer, run_catch_layer, run_clause_layer, matched, front, environments_of, generated, match_class, match_caught, applies_nothing, funs_in_function, funs_in_functions, numbered, code_of, find_numbered, arity_of, run_function, run_closure, enter, apply_within, apply}
-use Rattle.run_examples.specs.Outcomes.{main, module_of, outcome_of}
+use Rattle.erl_runs.specs.Operations.{elements_of, Association}
+use Rattle.erl_runs.specs.Records as R
+use Rattle.erl_runs.specs.Records.{records_of, find_record, fields_of, have_fields, and_values, given_for, omitted, new_values, default_kind, default_layer}
+use Rattle.erl_runs.specs.Matching.{Match, match_kind, match_layer, match_pattern, match_each, match_next, match_value}
+use Rattle.erl_runs.specs.Running.{Beside, Does, Part, Choice, Applies, Code, plain, part, of, all_of, funs_in, funs_in_choices, field_parts, names_of, behind, run_all, run_body, run_clauses, taken_anew, anew, guard_holds, class_name, then, finally, gives, gives_found, goes_wrong, still_going, with_calls, run_filter, paired, tagged, new_record, run_kind, choice_kind, run_layer, run_item_layer, run_qualifier_layer, run_assoc_layer, run_catch_layer, run_clause_layer, matched, front, environments_of, generated, match_class, match_caught, applies_nothing, funs_in_function, funs_in_functions, numbered, code_of, find_numbered, arity_of, run_function, run_closure, enter, apply_within, apply}
+use Rattle.run_examples.specs.Outcomes.{main, module_of, run_of, outcome_of}
 
 -- ---- folds
 
@@ -352,23 +352,34 @@ within-same code bound = λ j f args steps. go bound f args steps j
 
 -- ---- examples
 
--- the outcome of an expression with so many levels by computing
-unfoldable outcome_by : Programs → List RecDefKind → List Function → Node ExprKind → Outcome Value
-outcome_by readers records functions e = (within_by readers (code_by readers (module_of records (main e ∷ functions))) 100 (named_fun (codes "main") 0) [] 100).outcome
+-- the run of an expression with so many levels by computing
+unfoldable run_by : Programs → List RecDefKind → List Function → Node ExprKind → Run Value
+run_by readers records functions e = within_by readers (code_by readers (module_of records (main e ∷ functions))) 100 (named_fun (codes "main") 0) [] 100
 
-outcome-true : (records : List RecDefKind) (functions : List Function) (e : Node ExprKind) → outcome_by true_readers records functions e ≡ outcome_of records functions e
-unfolding outcome_by outcome_of
-outcome-true records functions e =
+run-true : (records : List RecDefKind) (functions : List Function) (e : Node ExprKind) → run_by true_readers records functions e ≡ run_of records functions e
+unfolding run_by run_of
+run-true records functions e =
     let m : Module = module_of records (main e ∷ functions) in
-    (λ j. (within_by true_readers (code-same m j) 100 (named_fun (codes "main") 0) [] 100).outcome) ∙ (λ j. (within-same (code_of m []) 100 j (named_fun (codes "main") 0) [] 100).outcome)
+    (λ j. within_by true_readers (code-same m j) 100 (named_fun (codes "main") 0) [] 100) ∙ (λ j. within-same (code_of m []) 100 j (named_fun (codes "main") 0) [] 100)
+
+unfoldable pub run_in_levels : ℕ → List RecDefKind → List Function → Node ExprKind → Run Value
+unfolding Rattle.std.specs.Str.chars run_by within_by of_levels levels next match_levels misfit_levels default_levels then finally Rattle.erl_tree.specs.declared.expr.ExprKind.TheBlock.shape-the_row-ExprKind-0 Rattle.erl_tree.specs.declared.expr.ExprKind.TheBlock.hidden-the_row-ExprKind-0 Rattle.erl_tree.specs.declared.expr.ExprKind.TheBlock.shown-the_row-ExprKind-0 Rattle.erl_tree.specs.declared.expr.ExprKind.TheBlock.shape-the_row-ExprKind-Tuple-0-4-1 Rattle.erl_tree.specs.declared.expr.ExprKind.TheBlock.hidden-the_row-ExprKind-Tuple-0-4-1 Rattle.erl_tree.specs.declared.expr.ExprKind.TheBlock.shown-the_row-ExprKind-Tuple-0-4-1 Rattle.erl_tree.specs.declared.expr.ExprKind.TheBlock.shape-the_row-QualifierKind-2 Rattle.erl_tree.specs.declared.expr.ExprKind.TheBlock.hidden-the_row-QualifierKind-2 Rattle.erl_tree.specs.declared.expr.ExprKind.TheBlock.shown-the_row-QualifierKind-2 Rattle.erl_tree.specs.declared.expr.ExprKind.TheBlock.shape-the_row-ExprKind-Comp-1-4-3 Rattle.erl_tree.specs.declared.expr.ExprKind.TheBlock.hidden-the_row-ExprKind-Comp-1-4-3 Rattle.erl_tree.specs.declared.expr.ExprKind.TheBlock.shown-the_row-ExprKind-Comp-1-4-3 Rattle.erl_tree.specs.declared.expr.ExprKind.TheBlock.shape-the_row-AssocKind-4 Rattle.erl_tree.specs.declared.expr.ExprKind.TheBlock.hidden-the_row-AssocKind-4 Rattle.erl_tree.specs.declared.expr.ExprKind.TheBlock.shown-the_row-AssocKind-4 Rattle.erl_tree.specs.declared.expr.ExprKind.TheBlock.shape-the_row-ExprKind-MapNew-0-4-5 Rattle.erl_tree.specs.declared.expr.ExprKind.TheBlock.hidden-the_row-ExprKind-MapNew-0-4-5 Rattle.erl_tree.specs.declared.expr.ExprKind.TheBlock.shown-the_row-ExprKind-MapNew-0-4-5 Rattle.erl_tree.specs.declared.expr.ExprKind.TheBlock.shape-the_row-ExprKind-RecNew-2-8-6 Rattle.erl_tree.specs.declared.expr.ExprKind.TheBlock.hidden-the_row-ExprKind-RecNew-2-8-6 Rattle.erl_tree.specs.declared.expr.ExprKind.TheBlock.shown-the_row-ExprKind-RecNew-2-8-6 Rattle.erl_tree.specs.declared.expr.ExprKind.TheBlock.shape-the_row-ExprKind-RecNew-2-10-7 Rattle.erl_tree.specs.declared.expr.ExprKind.TheBlock.hidden-the_row-ExprKind-RecNew-2-10-7 Rattle.erl_tree.specs.declared.expr.ExprKind.TheBlock.shown-the_row-ExprKind-RecNew-2-10-7 Rattle.erl_tree.specs.declared.expr.ExprKind.TheBlock.shape-the_row-ItemKind-8 Rattle.erl_tree.specs.declared.expr.ExprKind.TheBlock.hidden-the_row-ItemKind-8 Rattle.erl_tree.specs.declared.expr.ExprKind.TheBlock.shown-the_row-ItemKind-8 Rattle.erl_tree.specs.declared.expr.ExprKind.TheBlock.shape-the_row-ExprKind-Begin-0-4-9 Rattle.erl_tree.specs.declared.expr.ExprKind.TheBlock.hidden-the_row-ExprKind-Begin-0-4-9 Rattle.erl_tree.specs.declared.expr.ExprKind.TheBlock.shown-the_row-ExprKind-Begin-0-4-9 Rattle.erl_tree.specs.declared.expr.ExprKind.TheBlock.shape-the_row-ClauseKind-guard-7-10 Rattle.erl_tree.specs.declared.expr.ExprKind.TheBlock.hidden-the_row-ClauseKind-guard-7-10 Rattle.erl_tree.specs.declared.expr.ExprKind.TheBlock.shown-the_row-ClauseKind-guard-7-10 Rattle.erl_tree.specs.declared.expr.ExprKind.TheBlock.shape-the_row-ClauseKind-guard-8-11 Rattle.erl_tree.specs.declared.expr.ExprKind.TheBlock.hidden-the_row-ClauseKind-guard-8-11 Rattle.erl_tree.specs.declared.expr.ExprKind.TheBlock.shown-the_row-ClauseKind-guard-8-11 Rattle.erl_tree.specs.declared.expr.ExprKind.TheBlock.shape-the_row-ClauseKind-12 Rattle.erl_tree.specs.declared.expr.ExprKind.TheBlock.hidden-the_row-ClauseKind-12 Rattle.erl_tree.specs.declared.expr.ExprKind.TheBlock.shown-the_row-ClauseKind-12 Rattle.erl_tree.specs.declared.expr.ExprKind.TheBlock.shape-the_row-ExprKind-Case-1-4-13 Rattle.erl_tree.specs.declared.expr.ExprKind.TheBlock.hidden-the_row-ExprKind-Case-1-4-13 Rattle.erl_tree.specs.declared.expr.ExprKind.TheBlock.shown-the_row-ExprKind-Case-1-4-13 Rattle.erl_tree.specs.declared.expr.ExprKind.TheBlock.shape-the_row-CatchKind-14 Rattle.erl_tree.specs.declared.expr.ExprKind.TheBlock.hidden-the_row-CatchKind-14 Rattle.erl_tree.specs.declared.expr.ExprKind.TheBlock.shown-the_row-CatchKind-14 Rattle.erl_tree.specs.declared.expr.ExprKind.TheBlock.shape-the_row-ExprKind-Try-2-4-15 Rattle.erl_tree.specs.declared.expr.ExprKind.TheBlock.hidden-the_row-ExprKind-Try-2-4-15 Rattle.erl_tree.specs.declared.expr.ExprKind.TheBlock.shown-the_row-ExprKind-Try-2-4-15 Rattle.erl_tree.specs.declared.pattern.PatternKind.TheBlock.shape-the_row-PatternKind-0 Rattle.erl_tree.specs.declared.pattern.PatternKind.TheBlock.hidden-the_row-PatternKind-0 Rattle.erl_tree.specs.declared.pattern.PatternKind.TheBlock.shown-the_row-PatternKind-0 Rattle.erl_tree.specs.declared.pattern.PatternKind.TheBlock.shape-the_row-PatternKind-Tuple-0-4-1 Rattle.erl_tree.specs.declared.pattern.PatternKind.TheBlock.hidden-the_row-PatternKind-Tuple-0-4-1 Rattle.erl_tree.specs.declared.pattern.PatternKind.TheBlock.shown-the_row-PatternKind-Tuple-0-4-1 Rattle.erl_tree.specs.declared.pattern.PatternKind.TheBlock.shape-the_row-PatternKind-Map-0-8-2 Rattle.erl_tree.specs.declared.pattern.PatternKind.TheBlock.hidden-the_row-PatternKind-Map-0-8-2 Rattle.erl_tree.specs.declared.pattern.PatternKind.TheBlock.shown-the_row-PatternKind-Map-0-8-2 Rattle.erl_tree.specs.declared.pattern.PatternKind.TheBlock.shape-the_row-PatternKind-Map-0-10-3 Rattle.erl_tree.specs.declared.pattern.PatternKind.TheBlock.hidden-the_row-PatternKind-Map-0-10-3 Rattle.erl_tree.specs.declared.pattern.PatternKind.TheBlock.shown-the_row-PatternKind-Map-0-10-3 Rattle.erl_tree.specs.declared.pattern.PatternKind.TheBlock.shape-the_row-PatternKind-Rec-2-8-4 Rattle.erl_tree.specs.declared.pattern.PatternKind.TheBlock.hidden-the_row-PatternKind-Rec-2-8-4 Rattle.erl_tree.specs.declared.pattern.PatternKind.TheBlock.shown-the_row-PatternKind-Rec-2-8-4 Rattle.erl_tree.specs.declared.pattern.PatternKind.TheBlock.shape-the_row-PatternKind-Rec-2-10-5 Rattle.erl_tree.specs.declared.pattern.PatternKind.TheBlock.hidden-the_row-PatternKind-Rec-2-10-5 Rattle.erl_tree.specs.declared.pattern.PatternKind.TheBlock.shown-the_row-PatternKind-Rec-2-10-5 Rattle.erl_tree.specs.declared.expr.ExprKind.TheViews.out-ExprKind Rattle.erl_tree.specs.declared.expr.ExprKind.TheViews.roll-ExprKind Rattle.erl_tree.specs.declared.expr.ExprKind.TheViews.out-ItemKind Rattle.erl_tree.specs.declared.expr.ExprKind.TheViews.roll-ItemKind Rattle.erl_tree.specs.declared.expr.ExprKind.TheViews.out-QualifierKind Rattle.erl_tree.specs.declared.expr.ExprKind.TheViews.roll-QualifierKind Rattle.erl_tree.specs.declared.expr.ExprKind.TheViews.out-CatchKind Rattle.erl_tree.specs.declared.expr.ExprKind.TheViews.roll-CatchKind Rattle.erl_tree.specs.declared.pattern.PatternKind.TheViews.out-PatternKind Rattle.erl_tree.specs.declared.pattern.PatternKind.TheViews.roll-PatternKind denote.Hole.Carrier.out denote.Hole.Carrier.roll denote.Hole.Carrier.shown denote.Hole.Carrier.hidden
+run_in_levels k = run_by (of_levels k)
+
+run-levels : (k : ℕ) (records : List RecDefKind) (functions : List Function) (e : Node ExprKind) → run_in_levels k records functions e ≡ run_of records functions e
+unfolding run_in_levels
+run-levels k records functions e = (λ j. run_by (of-levels k j) records functions e) ∙ run-true records functions e
+
+pub computed-run : (records : List RecDefKind) (functions : List Function) (e : Node ExprKind) (run : Run Value) → run_in_levels 40 records functions e ≡ run → run_of records functions e ≡ run
+computed-run records functions e run h = sym (run-levels 40 records functions e) ∙ h
 
 unfoldable pub outcome_in_levels : ℕ → List RecDefKind → List Function → Node ExprKind → Outcome Value
-unfolding Rattle.std.specs.Str.chars outcome_by within_by of_levels levels next match_levels misfit_levels default_levels then finally Rattle.erl_tree.specs.declared.expr.ExprKind.TheBlock.shape-the_row-ExprKind-0 Rattle.erl_tree.specs.declared.expr.ExprKind.TheBlock.hidden-the_row-ExprKind-0 Rattle.erl_tree.specs.declared.expr.ExprKind.TheBlock.shown-the_row-ExprKind-0 Rattle.erl_tree.specs.declared.expr.ExprKind.TheBlock.shape-the_row-ExprKind-Tuple-0-4-1 Rattle.erl_tree.specs.declared.expr.ExprKind.TheBlock.hidden-the_row-ExprKind-Tuple-0-4-1 Rattle.erl_tree.specs.declared.expr.ExprKind.TheBlock.shown-the_row-ExprKind-Tuple-0-4-1 Rattle.erl_tree.specs.declared.expr.ExprKind.TheBlock.shape-the_row-QualifierKind-2 Rattle.erl_tree.specs.declared.expr.ExprKind.TheBlock.hidden-the_row-QualifierKind-2 Rattle.erl_tree.specs.declared.expr.ExprKind.TheBlock.shown-the_row-QualifierKind-2 Rattle.erl_tree.specs.declared.expr.ExprKind.TheBlock.shape-the_row-ExprKind-Comp-1-4-3 Rattle.erl_tree.specs.declared.expr.ExprKind.TheBlock.hidden-the_row-ExprKind-Comp-1-4-3 Rattle.erl_tree.specs.declared.expr.ExprKind.TheBlock.shown-the_row-ExprKind-Comp-1-4-3 Rattle.erl_tree.specs.declared.expr.ExprKind.TheBlock.shape-the_row-AssocKind-4 Rattle.erl_tree.specs.declared.expr.ExprKind.TheBlock.hidden-the_row-AssocKind-4 Rattle.erl_tree.specs.declared.expr.ExprKind.TheBlock.shown-the_row-AssocKind-4 Rattle.erl_tree.specs.declared.expr.ExprKind.TheBlock.shape-the_row-ExprKind-MapNew-0-4-5 Rattle.erl_tree.specs.declared.expr.ExprKind.TheBlock.hidden-the_row-ExprKind-MapNew-0-4-5 Rattle.erl_tree.specs.declared.expr.ExprKind.TheBlock.shown-the_row-ExprKind-MapNew-0-4-5 Rattle.erl_tree.specs.declared.expr.ExprKind.TheBlock.shape-the_row-ExprKind-RecNew-2-8-6 Rattle.erl_tree.specs.declared.expr.ExprKind.TheBlock.hidden-the_row-ExprKind-RecNew-2-8-6 Rattle.erl_tree.specs.declared.expr.ExprKind.TheBlock.shown-the_row-ExprKind-RecNew-2-8-6 Rattle.erl_tree.specs.declared.expr.ExprKind.TheBlock.shape-the_row-ExprKind-RecNew-2-10-7 Rattle.erl_tree.specs.declared.expr.ExprKind.TheBlock.hidden-the_row-ExprKind-RecNew-2-10-7 Rattle.erl_tree.specs.declared.expr.ExprKind.TheBlock.shown-the_row-ExprKind-RecNew-2-10-7 Rattle.erl_tree.specs.declared.expr.ExprKind.TheBlock.shape-the_row-ItemKind-8 Rattle.erl_tree.specs.declared.expr.ExprKind.TheBlock.hidden-the_row-ItemKind-8 Rattle.erl_tree.specs.declared.expr.ExprKind.TheBlock.shown-the_row-ItemKind-8 Rattle.erl_tree.specs.declared.expr.ExprKind.TheBlock.shape-the_row-ExprKind-Begin-0-4-9 Rattle.erl_tree.specs.declared.expr.ExprKind.TheBlock.hidden-the_row-ExprKind-Begin-0-4-9 Rattle.erl_tree.specs.declared.expr.ExprKind.TheBlock.shown-the_row-ExprKind-Begin-0-4-9 Rattle.erl_tree.specs.declared.expr.ExprKind.TheBlock.shape-the_row-ClauseKind-guard-7-10 Rattle.erl_tree.specs.declared.expr.ExprKind.TheBlock.hidden-the_row-ClauseKind-guard-7-10 Rattle.erl_tree.specs.declared.expr.ExprKind.TheBlock.shown-the_row-ClauseKind-guard-7-10 Rattle.erl_tree.specs.declared.expr.ExprKind.TheBlock.shape-the_row-ClauseKind-guard-8-11 Rattle.erl_tree.specs.declared.expr.ExprKind.TheBlock.hidden-the_row-ClauseKind-guard-8-11 Rattle.erl_tree.specs.declared.expr.ExprKind.TheBlock.shown-the_row-ClauseKind-guard-8-11 Rattle.erl_tree.specs.declared.expr.ExprKind.TheBlock.shape-the_row-ClauseKind-12 Rattle.erl_tree.specs.declared.expr.ExprKind.TheBlock.hidden-the_row-ClauseKind-12 Rattle.erl_tree.specs.declared.expr.ExprKind.TheBlock.shown-the_row-ClauseKind-12 Rattle.erl_tree.specs.declared.expr.ExprKind.TheBlock.shape-the_row-ExprKind-Case-1-4-13 Rattle.erl_tree.specs.declared.expr.ExprKind.TheBlock.hidden-the_row-ExprKind-Case-1-4-13 Rattle.erl_tree.specs.declared.expr.ExprKind.TheBlock.shown-the_row-ExprKind-Case-1-4-13 Rattle.erl_tree.specs.declared.expr.ExprKind.TheBlock.shape-the_row-CatchKind-14 Rattle.erl_tree.specs.declared.expr.ExprKind.TheBlock.hidden-the_row-CatchKind-14 Rattle.erl_tree.specs.declared.expr.ExprKind.TheBlock.shown-the_row-CatchKind-14 Rattle.erl_tree.specs.declared.expr.ExprKind.TheBlock.shape-the_row-ExprKind-Try-2-4-15 Rattle.erl_tree.specs.declared.expr.ExprKind.TheBlock.hidden-the_row-ExprKind-Try-2-4-15 Rattle.erl_tree.specs.declared.expr.ExprKind.TheBlock.shown-the_row-ExprKind-Try-2-4-15 Rattle.erl_tree.specs.declared.pattern.PatternKind.TheBlock.shape-the_row-PatternKind-0 Rattle.erl_tree.specs.declared.pattern.PatternKind.TheBlock.hidden-the_row-PatternKind-0 Rattle.erl_tree.specs.declared.pattern.PatternKind.TheBlock.shown-the_row-PatternKind-0 Rattle.erl_tree.specs.declared.pattern.PatternKind.TheBlock.shape-the_row-PatternKind-Tuple-0-4-1 Rattle.erl_tree.specs.declared.pattern.PatternKind.TheBlock.hidden-the_row-PatternKind-Tuple-0-4-1 Rattle.erl_tree.specs.declared.pattern.PatternKind.TheBlock.shown-the_row-PatternKind-Tuple-0-4-1 Rattle.erl_tree.specs.declared.pattern.PatternKind.TheBlock.shape-the_row-PatternKind-Map-0-8-2 Rattle.erl_tree.specs.declared.pattern.PatternKind.TheBlock.hidden-the_row-PatternKind-Map-0-8-2 Rattle.erl_tree.specs.declared.pattern.PatternKind.TheBlock.shown-the_row-PatternKind-Map-0-8-2 Rattle.erl_tree.specs.declared.pattern.PatternKind.TheBlock.shape-the_row-PatternKind-Map-0-10-3 Rattle.erl_tree.specs.declared.pattern.PatternKind.TheBlock.hidden-the_row-PatternKind-Map-0-10-3 Rattle.erl_tree.specs.declared.pattern.PatternKind.TheBlock.shown-the_row-PatternKind-Map-0-10-3 Rattle.erl_tree.specs.declared.pattern.PatternKind.TheBlock.shape-the_row-PatternKind-Rec-2-8-4 Rattle.erl_tree.specs.declared.pattern.PatternKind.TheBlock.hidden-the_row-PatternKind-Rec-2-8-4 Rattle.erl_tree.specs.declared.pattern.PatternKind.TheBlock.shown-the_row-PatternKind-Rec-2-8-4 Rattle.erl_tree.specs.declared.pattern.PatternKind.TheBlock.shape-the_row-PatternKind-Rec-2-10-5 Rattle.erl_tree.specs.declared.pattern.PatternKind.TheBlock.hidden-the_row-PatternKind-Rec-2-10-5 Rattle.erl_tree.specs.declared.pattern.PatternKind.TheBlock.shown-the_row-PatternKind-Rec-2-10-5 Rattle.erl_tree.specs.declared.expr.ExprKind.TheViews.out-ExprKind Rattle.erl_tree.specs.declared.expr.ExprKind.TheViews.roll-ExprKind Rattle.erl_tree.specs.declared.expr.ExprKind.TheViews.out-ItemKind Rattle.erl_tree.specs.declared.expr.ExprKind.TheViews.roll-ItemKind Rattle.erl_tree.specs.declared.expr.ExprKind.TheViews.out-QualifierKind Rattle.erl_tree.specs.declared.expr.ExprKind.TheViews.roll-QualifierKind Rattle.erl_tree.specs.declared.expr.ExprKind.TheViews.out-CatchKind Rattle.erl_tree.specs.declared.expr.ExprKind.TheViews.roll-CatchKind Rattle.erl_tree.specs.declared.pattern.PatternKind.TheViews.out-PatternKind Rattle.erl_tree.specs.declared.pattern.PatternKind.TheViews.roll-PatternKind denote.Hole.Carrier.out denote.Hole.Carrier.roll denote.Hole.Carrier.shown denote.Hole.Carrier.hidden
-outcome_in_levels k = outcome_by (of_levels k)
+unfolding run_in_levels
+outcome_in_levels k records functions e = (run_in_levels k records functions e).outcome
 
 outcome-levels : (k : ℕ) (records : List RecDefKind) (functions : List Function) (e : Node ExprKind) → outcome_in_levels k records functions e ≡ outcome_of records functions e
-unfolding outcome_in_levels
-outcome-levels k records functions e = (λ j. outcome_by (of-levels k j) records functions e) ∙ outcome-true records functions e
+unfolding outcome_in_levels outcome_of
+outcome-levels k records functions e = λ j. (run-levels k records functions e j).outcome
 
 pub computed : (records : List RecDefKind) (functions : List Function) (e : Node ExprKind) (outcome : Outcome Value) → outcome_in_levels 40 records functions e ≡ outcome → outcome_of records functions e ≡ outcome
 computed records functions e outcome h = sym (outcome-levels 40 records functions e) ∙ h

@@ -27,3 +27,6 @@ mod OwnOutcomesRuns
 mod OtherOrdersRuns
 mod OtherFiltersRuns
 mod OtherScopesRuns
+mod KindsOfWrongRuns
+mod ConstructsThatReturnRuns
+mod CallsAndStepsRuns

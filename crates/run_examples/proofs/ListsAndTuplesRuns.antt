@@ -3,47 +3,47 @@ use Rattle.std.proofs.Common.{refl}
 use Rattle.run_examples.specs.ListsAndTuples.{ListsAndTuples, lists_and_tuples_1, lists_and_tuples_2, lists_and_tuples_3, lists_and_tuples_4, lists_and_tuples_5, lists_and_tuples_6, lists_and_tuples_7, lists_and_tuples_8, lists_and_tuples_9, lists_and_tuples_10, lists_and_tuples_11}
 use Rattle.run_examples.proofs.Levels.{computed, outcome_in_levels}
 
-lists_and_tuples_1-runs : lists_and_tuples_1
+pub lists_and_tuples_1-runs : lists_and_tuples_1
 unfolding outcome_in_levels
 lists_and_tuples_1-runs = computed _ _ _ _ refl
 
-lists_and_tuples_2-runs : lists_and_tuples_2
+pub lists_and_tuples_2-runs : lists_and_tuples_2
 unfolding outcome_in_levels
 lists_and_tuples_2-runs = computed _ _ _ _ refl
 
-lists_and_tuples_3-runs : lists_and_tuples_3
+pub lists_and_tuples_3-runs : lists_and_tuples_3
 unfolding outcome_in_levels
 lists_and_tuples_3-runs = computed _ _ _ _ refl
 
-lists_and_tuples_4-runs : lists_and_tuples_4
+pub lists_and_tuples_4-runs : lists_and_tuples_4
 unfolding outcome_in_levels
 lists_and_tuples_4-runs = computed _ _ _ _ refl
 
-lists_and_tuples_5-runs : lists_and_tuples_5
+pub lists_and_tuples_5-runs : lists_and_tuples_5
 unfolding outcome_in_levels
 lists_and_tuples_5-runs = computed _ _ _ _ refl
 
-lists_and_tuples_6-runs : lists_and_tuples_6
+pub lists_and_tuples_6-runs : lists_and_tuples_6
 unfolding outcome_in_levels
 lists_and_tuples_6-runs = computed _ _ _ _ refl
 
-lists_and_tuples_7-runs : lists_and_tuples_7
+pub lists_and_tuples_7-runs : lists_and_tuples_7
 unfolding outcome_in_levels
 lists_and_tuples_7-runs = computed _ _ _ _ refl
 
-lists_and_tuples_8-runs : lists_and_tuples_8
+pub lists_and_tuples_8-runs : lists_and_tuples_8
 unfolding outcome_in_levels
 lists_and_tuples_8-runs = computed _ _ _ _ refl
 
-lists_and_tuples_9-runs : lists_and_tuples_9
+pub lists_and_tuples_9-runs : lists_and_tuples_9
 unfolding outcome_in_levels
 lists_and_tuples_9-runs = computed _ _ _ _ refl
 
-lists_and_tuples_10-runs : lists_and_tuples_10
+pub lists_and_tuples_10-runs : lists_and_tuples_10
 unfolding outcome_in_levels
 lists_and_tuples_10-runs = computed _ _ _ _ refl
 
-lists_and_tuples_11-runs : lists_and_tuples_11
+pub lists_and_tuples_11-runs : lists_and_tuples_11
 unfolding outcome_in_levels
 lists_and_tuples_11-runs = computed _ _ _ _ refl
 

@@ -3,19 +3,19 @@ use Rattle.std.proofs.Common.{refl}
 use Rattle.run_examples.specs.OtherFilters.{OtherFilters, other_filters_1, other_filters_2, other_filters_3, other_filters_4}
 use Rattle.run_examples.proofs.Levels.{computed, outcome_in_levels}
 
-other_filters_1-runs : other_filters_1
+pub other_filters_1-runs : other_filters_1
 unfolding outcome_in_levels
 other_filters_1-runs = computed _ _ _ _ refl
 
-other_filters_2-runs : other_filters_2
+pub other_filters_2-runs : other_filters_2
 unfolding outcome_in_levels
 other_filters_2-runs = computed _ _ _ _ refl
 
-other_filters_3-runs : other_filters_3
+pub other_filters_3-runs : other_filters_3
 unfolding outcome_in_levels
 other_filters_3-runs = computed _ _ _ _ refl
 
-other_filters_4-runs : other_filters_4
+pub other_filters_4-runs : other_filters_4
 unfolding outcome_in_levels
 other_filters_4-runs = computed _ _ _ _ refl
 

@@ -3,47 +3,47 @@ use Rattle.std.proofs.Common.{refl}
 use Rattle.run_examples.specs.OtherScopes.{OtherScopes, other_scopes_1, other_scopes_2, other_scopes_3, other_scopes_4, other_scopes_5, other_scopes_6, other_scopes_7, other_scopes_8, other_scopes_9, other_scopes_10, other_scopes_11}
 use Rattle.run_examples.proofs.Levels.{computed, outcome_in_levels}
 
-other_scopes_1-runs : other_scopes_1
+pub other_scopes_1-runs : other_scopes_1
 unfolding outcome_in_levels
 other_scopes_1-runs = computed _ _ _ _ refl
 
-other_scopes_2-runs : other_scopes_2
+pub other_scopes_2-runs : other_scopes_2
 unfolding outcome_in_levels
 other_scopes_2-runs = computed _ _ _ _ refl
 
-other_scopes_3-runs : other_scopes_3
+pub other_scopes_3-runs : other_scopes_3
 unfolding outcome_in_levels
 other_scopes_3-runs = computed _ _ _ _ refl
 
-other_scopes_4-runs : other_scopes_4
+pub other_scopes_4-runs : other_scopes_4
 unfolding outcome_in_levels
 other_scopes_4-runs = computed _ _ _ _ refl
 
-other_scopes_5-runs : other_scopes_5
+pub other_scopes_5-runs : other_scopes_5
 unfolding outcome_in_levels
 other_scopes_5-runs = computed _ _ _ _ refl
 
-other_scopes_6-runs : other_scopes_6
+pub other_scopes_6-runs : other_scopes_6
 unfolding outcome_in_levels
 other_scopes_6-runs = computed _ _ _ _ refl
 
-other_scopes_7-runs : other_scopes_7
+pub other_scopes_7-runs : other_scopes_7
 unfolding outcome_in_levels
 other_scopes_7-runs = computed _ _ _ _ refl
 
-other_scopes_8-runs : other_scopes_8
+pub other_scopes_8-runs : other_scopes_8
 unfolding outcome_in_levels
 other_scopes_8-runs = computed _ _ _ _ refl
 
-other_scopes_9-runs : other_scopes_9
+pub other_scopes_9-runs : other_scopes_9
 unfolding outcome_in_levels
 other_scopes_9-runs = computed _ _ _ _ refl
 
-other_scopes_10-runs : other_scopes_10
+pub other_scopes_10-runs : other_scopes_10
 unfolding outcome_in_levels
 other_scopes_10-runs = computed _ _ _ _ refl
 
-other_scopes_11-runs : other_scopes_11
+pub other_scopes_11-runs : other_scopes_11
 unfolding outcome_in_levels
 other_scopes_11-runs = computed _ _ _ _ refl
 

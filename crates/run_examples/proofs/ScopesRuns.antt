@@ -3,67 +3,67 @@ use Rattle.std.proofs.Common.{refl}
 use Rattle.run_examples.specs.Scopes.{Scopes, scopes_1, scopes_2, scopes_3, scopes_4, scopes_5, scopes_6, scopes_7, scopes_8, scopes_9, scopes_10, scopes_11, scopes_12, scopes_13, scopes_14, scopes_15, scopes_16}
 use Rattle.run_examples.proofs.Levels.{computed, outcome_in_levels}
 
-scopes_1-runs : scopes_1
+pub scopes_1-runs : scopes_1
 unfolding outcome_in_levels
 scopes_1-runs = computed _ _ _ _ refl
 
-scopes_2-runs : scopes_2
+pub scopes_2-runs : scopes_2
 unfolding outcome_in_levels
 scopes_2-runs = computed _ _ _ _ refl
 
-scopes_3-runs : scopes_3
+pub scopes_3-runs : scopes_3
 unfolding outcome_in_levels
 scopes_3-runs = computed _ _ _ _ refl
 
-scopes_4-runs : scopes_4
+pub scopes_4-runs : scopes_4
 unfolding outcome_in_levels
 scopes_4-runs = computed _ _ _ _ refl
 
-scopes_5-runs : scopes_5
+pub scopes_5-runs : scopes_5
 unfolding outcome_in_levels
 scopes_5-runs = computed _ _ _ _ refl
 
-scopes_6-runs : scopes_6
+pub scopes_6-runs : scopes_6
 unfolding outcome_in_levels
 scopes_6-runs = computed _ _ _ _ refl
 
-scopes_7-runs : scopes_7
+pub scopes_7-runs : scopes_7
 unfolding outcome_in_levels
 scopes_7-runs = computed _ _ _ _ refl
 
-scopes_8-runs : scopes_8
+pub scopes_8-runs : scopes_8
 unfolding outcome_in_levels
 scopes_8-runs = computed _ _ _ _ refl
 
-scopes_9-runs : scopes_9
+pub scopes_9-runs : scopes_9
 unfolding outcome_in_levels
 scopes_9-runs = computed _ _ _ _ refl
 
-scopes_10-runs : scopes_10
+pub scopes_10-runs : scopes_10
 unfolding outcome_in_levels
 scopes_10-runs = computed _ _ _ _ refl
 
-scopes_11-runs : scopes_11
+pub scopes_11-runs : scopes_11
 unfolding outcome_in_levels
 scopes_11-runs = computed _ _ _ _ refl
 
-scopes_12-runs : scopes_12
+pub scopes_12-runs : scopes_12
 unfolding outcome_in_levels
 scopes_12-runs = computed _ _ _ _ refl
 
-scopes_13-runs : scopes_13
+pub scopes_13-runs : scopes_13
 unfolding outcome_in_levels
 scopes_13-runs = computed _ _ _ _ refl
 
-scopes_14-runs : scopes_14
+pub scopes_14-runs : scopes_14
 unfolding outcome_in_levels
 scopes_14-runs = computed _ _ _ _ refl
 
-scopes_15-runs : scopes_15
+pub scopes_15-runs : scopes_15
 unfolding outcome_in_levels
 scopes_15-runs = computed _ _ _ _ refl
 
-scopes_16-runs : scopes_16
+pub scopes_16-runs : scopes_16
 unfolding outcome_in_levels
 scopes_16-runs = computed _ _ _ _ refl
 

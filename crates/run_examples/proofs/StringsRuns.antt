@@ -3,59 +3,59 @@ use Rattle.std.proofs.Common.{refl}
 use Rattle.run_examples.specs.Strings.{Strings, strings_1, strings_2, strings_3, strings_4, strings_5, strings_6, strings_7, strings_8, strings_9, strings_10, strings_11, strings_12, strings_13, strings_14}
 use Rattle.run_examples.proofs.Levels.{computed, outcome_in_levels}
 
-strings_1-runs : strings_1
+pub strings_1-runs : strings_1
 unfolding outcome_in_levels
 strings_1-runs = computed _ _ _ _ refl
 
-strings_2-runs : strings_2
+pub strings_2-runs : strings_2
 unfolding outcome_in_levels
 strings_2-runs = computed _ _ _ _ refl
 
-strings_3-runs : strings_3
+pub strings_3-runs : strings_3
 unfolding outcome_in_levels
 strings_3-runs = computed _ _ _ _ refl
 
-strings_4-runs : strings_4
+pub strings_4-runs : strings_4
 unfolding outcome_in_levels
 strings_4-runs = computed _ _ _ _ refl
 
-strings_5-runs : strings_5
+pub strings_5-runs : strings_5
 unfolding outcome_in_levels
 strings_5-runs = computed _ _ _ _ refl
 
-strings_6-runs : strings_6
+pub strings_6-runs : strings_6
 unfolding outcome_in_levels
 strings_6-runs = computed _ _ _ _ refl
 
-strings_7-runs : strings_7
+pub strings_7-runs : strings_7
 unfolding outcome_in_levels
 strings_7-runs = computed _ _ _ _ refl
 
-strings_8-runs : strings_8
+pub strings_8-runs : strings_8
 unfolding outcome_in_levels
 strings_8-runs = computed _ _ _ _ refl
 
-strings_9-runs : strings_9
+pub strings_9-runs : strings_9
 unfolding outcome_in_levels
 strings_9-runs = computed _ _ _ _ refl
 
-strings_10-runs : strings_10
+pub strings_10-runs : strings_10
 unfolding outcome_in_levels
 strings_10-runs = computed _ _ _ _ refl
 
-strings_11-runs : strings_11
+pub strings_11-runs : strings_11
 unfolding outcome_in_levels
 strings_11-runs = computed _ _ _ _ refl
 
-strings_12-runs : strings_12
+pub strings_12-runs : strings_12
 unfolding outcome_in_levels
 strings_12-runs = computed _ _ _ _ refl
 
-strings_13-runs : strings_13
+pub strings_13-runs : strings_13
 unfolding outcome_in_levels
 strings_13-runs = computed _ _ _ _ refl
 
-strings_14-runs : strings_14
+pub strings_14-runs : strings_14
 unfolding outcome_in_levels
 strings_14-runs = computed _ _ _ _ refl
 

@@ -29,3 +29,6 @@ pub mod OwnOutcomes
 pub mod OtherOrders
 pub mod OtherFilters
 pub mod OtherScopes
+pub mod KindsOfWrong
+pub mod ConstructsThatReturn
+pub mod CallsAndSteps

@@ -8,10 +8,10 @@ use Rattle.erl_tree.specs.declared.form.RecDefKind.{RecDefKind}
 use Rattle.erl_tree.specs.declared.form.TreeForm.TheVariants as F
 use Rattle.erl_tree.specs.declared.form.Module.{Module}
 use Rattle.erl_runs.specs.FiniteMaps.{insert}
-use Rattle.whole_runs.specs.Records.{values_of, list_with}
+use Rattle.erl_runs.specs.Records.{values_of, list_with}
 use Rattle.erl_runs.specs.Value as V
-use Rattle.erl_runs.specs.Value.{Value, named_fun, MapEntries, no_entries, Outcome}
-use Rattle.whole_runs.specs.Running.{code_of, apply}
+use Rattle.erl_runs.specs.Value.{Value, named_fun, MapEntries, no_entries, Outcome, Call, Run}
+use Rattle.erl_runs.specs.Running.{code_of, apply}
 use Rattle.run_examples.specs.Trees.{Expr, node, value, clause, function}
 
 -- a module of these records and functions
@@ -22,9 +22,23 @@ module_of records functions = record { name = codes "m"; marks = []; forms = map
 abbrev pub main : Expr → Function
 main e = function (codes "main") (clause [] (value e ∷ []) ∷ [])
 
--- what the call `main()` comes to within a hundred steps, in a module of that function and of these records and functions
+-- what the call `main()` does within a hundred steps, in a module of that function and of these records and functions
+unfoldable pub run_of : List RecDefKind → List Function → Expr → Run Value
+run_of records functions e = apply (code_of (module_of records (main e ∷ functions)) []) (named_fun (codes "main") 0) [] 100
+
+-- what it comes to
 unfoldable pub outcome_of : List RecDefKind → List Function → Expr → Outcome Value
-outcome_of records functions e = (apply (code_of (module_of records (main e ∷ functions)) []) (named_fun (codes "main") 0) [] 100).outcome
+outcome_of records functions e = (run_of records functions e).outcome
+
+-- ---- runs
+
+-- the call of this function with these arguments, after which so many steps were left
+abbrev pub called : Name → List Value → ℕ → Call
+called name args left = record { name = name; args = args; left = left }
+
+-- it ended so, with so many steps left, and with these calls behind that of `main()`
+abbrev pub ended : Outcome Value → ℕ → List Call → Run Value
+ended outcome left calls = record { outcome = outcome; left = left; calls = called (codes "main") [] 99 ∷ calls }
 
 -- ---- values
 

@@ -1,5 +1,0 @@
-use Rattle.erl_runs.proofs.SpentSteps.{spends}
-use Rattle.erl_runs.proofs.laws.programs_spend_steps.Goals as goal
-
-pub returns : goal.returns
-returns c = spends

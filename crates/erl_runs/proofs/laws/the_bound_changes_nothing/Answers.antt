@@ -1,5 +1,0 @@
-use Rattle.erl_runs.proofs.BoundFree.{within-apply}
-use Rattle.erl_runs.proofs.laws.the_bound_changes_nothing.Goals as goal
-
-pub returns : goal.returns
-returns c = within-apply
