@@ -1,0 +1,9 @@
+pub mod NamesCompared
+pub mod RecordLookups
+pub mod Rows
+pub mod FaultLevels
+pub mod FieldLaws
+pub mod FunctionLookups
+pub mod Steps
+pub mod TableLaws
+pub mod Alike

@@ -1,0 +1,4 @@
+pub mod PartFaults
+pub mod Tables
+pub mod Bounds
+pub mod FormFaults

@@ -1,0 +1,4 @@
+mod FaultOrder
+mod FirstOfTwo
+mod FirstFaults
+mod OneFirst

@@ -1,0 +1,6 @@
+pub mod Occurrences
+pub mod Bindings
+pub mod ScopeFaults
+pub mod Resolution
+pub mod Earliest
+pub mod SmallScopes

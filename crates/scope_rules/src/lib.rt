@@ -1,0 +1,13 @@
+//! The rules of names: which variables of a module are bound, by which occurrence and with which number,
+//! and which functions, specs, records and fields are there. Definitions, with their laws and examples.
+#![tactic(auto)]
+
+pub mod examples;
+mod fault;
+pub mod laws;
+mod resolved;
+mod role;
+
+pub use fault::{NameFault, PlacedFault};
+pub use resolved::Resolved;
+pub use role::Role;

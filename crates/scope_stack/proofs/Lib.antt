@@ -1,0 +1,12 @@
+pub mod PartLaws
+pub mod LatestFirst
+pub mod NameLaws
+pub mod TableLaws
+pub mod StackLaws
+pub mod LookUps
+pub mod Absent
+pub mod Changes
+pub mod Kept
+pub mod Stores
+pub mod Readings
+pub mod Sees

@@ -1,0 +1,5 @@
+pub mod State
+pub mod Between
+pub mod Named
+pub mod Stored
+pub mod Indexed
