@@ -6,7 +6,7 @@ use Rattle.std.specs.Prelude.{codes}
 use Rattle.std.proofs.lemmas.Bool.{false_from_ne_true}
 use Rattle.std.proofs.lemmas.Bool.Decides.{Decides-eqb}
 use Rattle.type_terms.specs.Keys.{Name, same_name}
-use Rattle.erl_runs.specs.Readable.{is_built_in}
+use Rattle.erl_runs.specs.Names.{is_built_in}
 use Rattle.erl_tree.specs.Functions.{of_function}
 use Rattle.built_ins.specs.Parts.{type_tests, operations, exceptions}
 

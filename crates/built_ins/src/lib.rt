@@ -5,7 +5,7 @@ ghost use Rattle.std.specs.Prelude.{◌≡◌};
 ghost use Rattle.std.specs.List.{list_any};
 ghost use Rattle.std.specs.Str.{bytes_eq};
 ghost use Rattle.erl_tree.specs.Functions.{of_function};
-ghost use Rattle.erl_runs.specs.Readable.{is_built_in};
+ghost use Rattle.erl_runs.specs.Names.{is_built_in};
 ghost use Rattle.built_ins.specs.Parts.{type_tests, operations, exceptions};
 
 mod text;

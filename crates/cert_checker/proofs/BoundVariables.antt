@@ -8,7 +8,7 @@ use Rattle.type_terms.specs.declared.term.Term.{Term}
 use Rattle.type_terms.specs.Keys.{Name, same_name}
 use Rattle.erl_tree.specs.declared.token.Node.{Node}
 use Rattle.erl_tree.specs.declared.pattern.PatternKind.{PatternKind}
-use Rattle.erl_runs.specs.Readable.{is_wildcard}
+use Rattle.erl_runs.specs.Names.{is_wildcard}
 use Rattle.cert_checker.specs.Constraints.{variable_type}
 use Rattle.cert_checker.specs.declared.expression_type.ExpressionType.TheVariants.{Parameter}
 use Rattle.cert_checker.specs.declared.scope.Scope.{Scope}

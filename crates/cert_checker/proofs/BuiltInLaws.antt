@@ -6,7 +6,7 @@ use Rattle.std.proofs.lemmas.Bool.{or_parts}
 use Rattle.type_terms.specs.Keys.{Name, same_name}
 use Rattle.erl_tree.specs.Lists.{Every}
 use Rattle.erl_tree.specs.Functions.{FunctionId, of_function}
-use Rattle.erl_runs.specs.Readable.{built_ins, same_id, is_built_in}
+use Rattle.erl_runs.specs.Names.{built_ins, same_id, is_built_in}
 use Rattle.erl_runs.specs.Value.{Value, error, exit, throw}
 use Rattle.erl_runs.specs.Operations.{elements_of, is_atom, is_boolean, is_integer, is_list, is_map, is_tuple, is_function, test_named, head_of, tail_of, count_of, tuple_size_of, map_size_of, absolute_of, operation_named, class_named, first_built_in, has_arity, built_in}
 

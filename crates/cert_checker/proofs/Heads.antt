@@ -16,7 +16,8 @@ use Rattle.erl_tree.specs.declared.pattern.PatternKind.TheOpen as P
 use Rattle.erl_tree.specs.declared.form.RecDefKind.{RecDefKind}
 use Rattle.erl_tree.specs.Lists.{Every, Among, AreDistinct}
 use Rattle.flat_modules.specs.Grammar.{IsPattern, is_pattern_layer}
-use Rattle.erl_runs.specs.Readable.{is_wildcard, bound_layer, bound_by}
+use Rattle.erl_runs.specs.Names.{is_wildcard}
+use Rattle.flat_modules.specs.FlatNames.{bound_layer, bound_by}
 use Rattle.erl_runs.specs.Value.{Value, Environment}
 use Rattle.erl_runs.specs.Matching.{variable_value, with_variable, Match, match_variable, match_next, match_kind, match_patterns}
 use Rattle.erl_runs.specs.Membership.{Levels, values_in}

@@ -28,11 +28,12 @@ use Rattle.erl_tree.specs.Lists.{Every, Among}
 use Rattle.erl_tree.specs.Functions.{FunctionId, of_function, function_id, functions_of, function_ids, clauses_arity}
 use Rattle.erl_runs.specs.Specs.{and_then, specs_in, specs_of}
 use Rattle.flat_modules.specs.Grammar.{IsExpr, one_product, sum, IsProduct, one_operand, product, IsOperand, integer, atom, variable, parens, call as call_operand, AreArguments, no_arguments, last_argument, more_arguments, IsAdditive, IsPattern, is_pattern_layer, IsBody, IsClause, IsFunction, IsItem, is_item_layer, is_clause_layer}
-use Rattle.erl_runs.specs.Readable.{is_wildcard, bound_layer, bound_by, used_in, used_item_layer, used_by, called_in, called_item_layer, IsScopedClause, CallsOnly}
+use Rattle.erl_runs.specs.Names.{is_wildcard}
+use Rattle.flat_modules.specs.FlatNames.{bound_layer, bound_by, used_in, used_item_layer, used_by, called_in, called_item_layer, IsScopedClause, CallsOnly}
 use Rattle.flat_modules.specs.FlatModules.{IsFlatModule}
-use Rattle.flat_modules.proofs.FlatLaws.{flat-formed}
+use Rattle.flat_modules.proofs.FlatLaws.{flat-formed, flat-names}
 use Rattle.erl_runs.specs.Membership.{arrows_of}
-use Rattle.erl_runs.proofs.MeaningLaws.{all_used, all_called, used_in-Var, used_in-Paren, used_in-Binary, used_in-Call, called_in-Var, called_in-Paren, called_in-Binary, called_in-Call}
+use Rattle.flat_modules.proofs.FlatNameEquations.{all_used, all_called, used_in-Var, used_in-Paren, used_in-Binary, used_in-Call, called_in-Var, called_in-Paren, called_in-Binary, called_in-Call}
 use Rattle.cert_checker.specs.Constraints.{Constraint, Test, Context, Judged, JudgedAll, variable_type, of_type, is_arithmetic, operation, call, judge, judge_kind, owed_result, owed_by_item, owed_by_body, owed_by_clauses, owed_for_arrows, owed_by_functions, owed_of, result_count}
 use Rattle.cert_checker.proofs.Lists.{every-split, every-at}
 use Rattle.cert_checker.proofs.Parts.{HasOneArrow, one-arrow-each, arrow-arity, well_formed-forms, forms-functions, forms-specs, function-clause}
@@ -208,7 +209,7 @@ body-judged fits number m flat f a arrow k =
     let i : (i : Node ItemKind) × ((out-ClauseKind c.0.kind).body ≡ i ∷ []) × IsItem i = body-item (out-ClauseKind c.0.kind).body p.2 in
     let e : (e : Node ExprKind) × (out-ItemKind i.0.kind ≡ E.Value e) × IsExpr e = item-expr (out-ItemKind i.0.kind) i.0.place i.0.marks i.2 in
     let patterns : List (Node PatternKind) = (out-ClauseKind c.0.kind).patterns in
-    let scoped : Every IsScopedClause (c.0 ∷ []) = subst (λ z. Every IsScopedClause z) c.1 (every-at _ f (functions_of m) flat.readable.scoped a) in
+    let scoped : Every IsScopedClause (c.0 ∷ []) = subst (λ z. Every IsScopedClause z) c.1 (every-at _ f (functions_of m) (flat-names m flat).scoped a) in
     let used : Every (λ x. Among x (bound_by patterns)) (used_item_layer (out-ItemKind i.0.kind) ++ []) = subst (λ z. Every (λ x. Among x (bound_by patterns)) (used_by z)) i.1 scoped.0 in
     let calls : Every (CallsOnly (function_ids m)) (c.0 ∷ []) = subst (λ z. Every (CallsOnly (function_ids m)) z) c.1 (every-at _ f (functions_of m) flat.own_calls a) in
     let called : Every (λ (i : Node ItemKind). Every (λ id. Among id (function_ids m)) (called_item_layer (out-ItemKind i.kind))) (i.0 ∷ []) = subst (λ z. Every (λ (i : Node ItemKind). Every (λ id. Among id (function_ids m)) (called_item_layer (out-ItemKind i.kind))) z) i.1 calls.0 in

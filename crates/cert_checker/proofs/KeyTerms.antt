@@ -23,7 +23,7 @@ use Rattle.flat_modules.specs.Grammar.{IsType, one_type, union, IsSimpleType, at
 use Rattle.erl_runs.specs.Specs.{and_then, end_of, range, built_in_type, type_term, all_present, clause_arrow, function_spec, specs_in, read_specs, specs_of}
 use Rattle.erl_runs.specs.Value.{Value, integer, atom, nil, cons, tuple, map_of, named_fun, closure}
 use Rattle.erl_runs.specs.Membership.{Program, InTerm, values_in, arrows_if, arrows_of}
-use Rattle.erl_runs.proofs.MeaningLaws.{type_kind_term-Atom, type_kind_term-Int, type_kind_term-NegInt, type_kind_term-Paren, type_kind_term-Or, type_kind_term-Range, type_kind_term-Use}
+use Rattle.erl_runs.proofs.TypeTermLaws.{type_kind_term-Atom, type_kind_term-Int, type_kind_term-NegInt, type_kind_term-Paren, type_kind_term-Or, type_kind_term-Range, type_kind_term-Use}
 use Rattle.erl_runs.proofs.Equations.{in-Or}
 use Rattle.erl_runs.proofs.MembershipStability.{in-stable}
 use Rattle.cert_checker.proofs.Lists.{then-some, some-inj, none-some}

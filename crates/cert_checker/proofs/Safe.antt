@@ -32,15 +32,16 @@ use Rattle.erl_tree.specs.Functions.{of_function, function_id, functions_of, fun
 use Rattle.erl_runs.specs.Specs.{and_then, one_integer, specs_of, specs_in, spec_id}
 use Rattle.flat_modules.specs.Grammar.{IsExpr, one_product, sum, IsProduct, one_operand, product, IsOperand, AreArguments, no_arguments, last_argument, more_arguments, IsAdditive, IsPattern, is_pattern_layer, IsBody}
 use Rattle.flat_modules.specs.Grammar as G
-use Rattle.erl_runs.specs.Readable.{is_wildcard, bound_layer, bound_by, is_built_in}
+use Rattle.erl_runs.specs.Names.{is_wildcard, is_built_in}
+use Rattle.flat_modules.specs.FlatNames.{bound_layer, bound_by}
 use Rattle.flat_modules.specs.FlatModules.{HasDistinctHead, IsFlatModule}
-use Rattle.flat_modules.proofs.FlatLaws.{flat-formed}
+use Rattle.flat_modules.proofs.FlatLaws.{flat-formed, flat-names}
 use Rattle.erl_runs.specs.Value.{Value, Environment, no_bindings, named_fun, Run, Outcome, came, raised, wrong, going, integer, atom, Call, nil, cons, tuple, map_of, closure}
 use Rattle.erl_runs.specs.Matching.{variable_value, match_patterns}
 use Rattle.erl_runs.specs.Membership.{Program, InTerm, values_in, arrows_if, arrows_of, ends_well, calls_within}
 use Rattle.erl_runs.specs.Records.{records_of}
 use Rattle.erl_runs.specs.Operations.{operate, built_in}
-use Rattle.erl_runs.specs.Running.{ends, gives, gives_found, goes_wrong, go_on, then, Applies, behind, run_all, run_operator, run_call, taken_anew, run_clauses, run_kind, choices, Code, code_of, numbered, find_numbered, arity_of, run_function, enter, apply_within, apply, program_of}
+use Rattle.erl_runs.specs.Running.{ends, meaning, gives, goes_wrong, go_on, then, Applies, behind, run_all, run_operator, run_call, taken_anew, run_clauses, run_kind, choices, Code, code_of, numbered, find_numbered, arity_of, run_function, enter, apply_within, apply, program_of}
 use Rattle.erl_runs.specs.Safety.{IsRightRun, IsSafe}
 use Rattle.erl_runs.proofs.RunLaws.{expr_part, runs-Int, runs-Atom, runs-Var, runs-Paren, runs-Binary, runs-Call, run_bound, one_clause-runs}
 use Rattle.cert_checker.specs.Constraints.{Test, Holds, IsWithin, Context, Judged, JudgedAll, of_type, integers, is_arithmetic, operand, operation, call, variable_type, judge, judge_kind, owed_result, owed_by_clauses, owed_for_arrows, owed_by_functions, owed_of}
@@ -215,25 +216,25 @@ module _ (program : Program) where
 
   -- ---- expressions
 
-  module _ (number : ℕ) (specs : List FunSpec) (keyed : (name : Name) (arity : ℕ) (arrow : Arrow) → Contains (arrows_of specs name arity) arrow → IsArrowOfKeys arrow) (records : List RecDefKind) (arity : Value → ℕ) (apply : Applies)
+  module _ (number : ℕ) (specs : List FunSpec) (keyed : (name : Name) (arity : ℕ) (arrow : Arrow) → Contains (arrows_of specs name arity) arrow → IsArrowOfKeys arrow) (unbound : Outcome Value) (records : List RecDefKind) (arity : Value → ℕ) (apply : Applies)
       (free : (name : Name) (arrow : Arrow) (vs : List Value) → arrows_of specs name (length vs) ≡ arrow ∷ [] → built_in arity name vs ≡ None)
       (called : (name : Name) (arrow : Arrow) (vs : List Value) (steps : ℕ) → arrows_of specs name (length vs) ≡ arrow ∷ [] → AreHeld vs arrow.params → GoodRun Value (λ v. Held v arrow.result) (apply (named_fun name (length vs)) vs steps))
       (context : Context) (environment : Environment) (owns : (x : Name) (t : Term) → context x ≡ Some t → IsOfKeys t × (v : Value) × (variable_value environment x ≡ Some v) × Held v t) where
     -- what an expression is run as, and several in turn
     abbrev runs : Node ExprKind → ℕ → ℕ → Run Value
-    runs e first steps = (expr_part records arity apply e).run first environment steps
+    runs e first steps = (expr_part unbound records arity apply e).run first environment steps
 
     abbrev run_args : List (Node ExprKind) → ℕ → ℕ → Run (List Value)
-    run_args es first steps = run_all (map (expr_part records arity apply) es) first environment steps
+    run_args es first steps = run_all (map (expr_part unbound records arity apply) es) first environment steps
 
     -- the number behind those of the fun expressions in an expression
     abbrev past : Node ExprKind → ℕ → ℕ
-    past e first = behind first (expr_part records arity apply e).funs
+    past e first = behind first (expr_part unbound records arity apply e).funs
 
     -- the type is of keys, and where what is owed holds, each run is good for it, whatever the number of its first fun expression
     record Sound (e : ExprKind) (j : Judged) : Type 0 where
       keys : IsOfKeys j.type
-      good : Every Holds j.owed → (first steps : ℕ) → GoodRun Value (λ v. Held v j.type) ((run_kind records arity apply e).run first environment steps)
+      good : Every Holds j.owed → (first steps : ℕ) → GoodRun Value (λ v. Held v j.type) ((run_kind unbound records arity apply e).run first environment steps)
 
     -- the same of expressions in turn
     record AreSound (es : List (Node ExprKind)) (js : JudgedAll) : Type 0 where
@@ -271,7 +272,7 @@ module _ (program : Program) where
           good = λ h first steps.
               let h1 : Every Holds x.0.owed × Every Holds (y.0.owed ++ operand always number specs a.place x.0.type ∷ operand always number specs b.place y.0.type ∷ []) = every-split Holds x.0.owed _ h in
               let h2 : Every Holds y.0.owed × Every Holds (operand always number specs a.place x.0.type ∷ operand always number specs b.place y.0.type ∷ []) = every-split Holds y.0.owed _ h1.1 in
-              subst (λ z. GoodRun Value IsInteger z) (sym (runs-Binary records arity apply op a b first environment steps))
+              subst (λ z. GoodRun Value IsInteger z) (sym (runs-Binary unbound records arity apply op a b first environment steps))
               (then-good (λ v. Held v x.0.type) IsInteger (runs a first steps) _ (s.good h1.0 first steps) (λ v left hv.
               subst (λ z. GoodRun Value IsInteger z) (sym (operator-runs op o v (λ rest. runs b (past a first) rest) left))
               (then-good (λ w. Held w y.0.type) IsInteger (runs b (past a first) left) _ (t.good h2.0 (past a first) left) (λ w rest hw.
@@ -301,10 +302,10 @@ module _ (program : Program) where
               keys = k.1;
               good = λ h first steps.
                   let hs : Every Holds js.owed × Every Holds (record { function = number; place = place; kind = CallKind; left = And (Fun arrow.params arrow.result ∷ []); right = Fun js.types arrow.result } ∷ []) = every-split Holds js.owed _ h in
-                  subst (λ z. GoodRun Value (λ v. Held v arrow.result) z) (sym (runs-Call records arity apply None name args first environment steps))
+                  subst (λ z. GoodRun Value (λ v. Held v arrow.result) z) (sym (runs-Call unbound records arity apply None name args first environment steps))
                   (then-good (λ vs. AreHeld vs js.types) (λ v. Held v arrow.result) (run_args args first steps) _ (s.good hs.0 first steps) (λ vs left hv.
                   let one : arrows_of specs name (length vs) ≡ arrow ∷ [] = ap (arrows_of specs name) (held-length vs js.types hv) ∙ e in
-                  subst (λ z. GoodRun Value (λ v. Held v arrow.result) (run_call None z (λ rest. apply (named_fun name (length vs)) vs rest) left)) (sym (free name arrow vs one))
+                  subst (λ z. GoodRun Value (λ v. Held v arrow.result) (run_call unbound None z (λ rest. apply (named_fun name (length vs)) vs rest) left)) (sym (free name arrow vs one))
                   (called name arrow vs left one (call-takes js.types arrow.params arrow.result arrow.result s.keys k.0 hs.1.0 program 0 no_variables vs hv))));
             })
 
@@ -342,17 +343,17 @@ module _ (program : Program) where
 
       operand-sound : (e : Node ExprKind) → IsOperand e → (j : Judged) → judge always number specs e context ≡ Some j → Sound e.kind j
       operand-sound e (G.integer p n) j q = sound-at (X.Int n) (record { type = one_integer n; owed = [] }) j (sym (judge_kind-Int always number specs n p context) ∙ q)
-          (record { keys = ints-keys (Some n) (Some n); good = λ h first steps. subst (λ z. GoodRun Value (λ v. Held v (one_integer n)) z) (sym (runs-Int records arity apply n first environment steps)) (record { ends = and_from _ _ (le-same n) (le-same n); calls = tt }) })
+          (record { keys = ints-keys (Some n) (Some n); good = λ h first steps. subst (λ z. GoodRun Value (λ v. Held v (one_integer n)) z) (sym (runs-Int unbound records arity apply n first environment steps)) (record { ends = and_from _ _ (le-same n) (le-same n); calls = tt }) })
       operand-sound e (G.atom p a) j q = sound-at (X.Atom a) (record { type = AtomLit a; owed = [] }) j (sym (judge_kind-Atom always number specs a p context) ∙ q)
-          (record { keys = atom-keys a; good = λ h first steps. subst (λ z. GoodRun Value (λ v. Held v (AtomLit a)) z) (sym (runs-Atom records arity apply a first environment steps)) (record { ends = name-refl a; calls = tt }) })
+          (record { keys = atom-keys a; good = λ h first steps. subst (λ z. GoodRun Value (λ v. Held v (AtomLit a)) z) (sym (runs-Atom unbound records arity apply a first environment steps)) (record { ends = name-refl a; calls = tt }) })
       operand-sound e (G.variable p x) j q =
           let t : (t : Term) × (context x ≡ Some t) × (of_type t ≡ Some j) = then-some (context x) _ j (sym (judge_kind-Var always number specs x p context) ∙ q) in
           let o : IsOfKeys t.0 × (v : Value) × (variable_value environment x ≡ Some v) × Held v t.0 = owns x t.0 t.1 in
           sound-at (X.Var x) (record { type = t.0; owed = [] }) j t.2
-          (record { keys = o.0; good = λ h first steps. subst (λ z. GoodRun Value (λ v. Held v t.0) z) (sym (runs-Var records arity apply x first environment steps ∙ ap (λ z. gives_found z steps) o.2)) (record { ends = o.3; calls = tt }) })
+          (record { keys = o.0; good = λ h first steps. subst (λ z. GoodRun Value (λ v. Held v t.0) z) (sym (runs-Var unbound records arity apply x first environment steps ∙ ap (λ z. ends (meaning unbound z) steps) o.2)) (record { ends = o.3; calls = tt }) })
       operand-sound e (G.parens o c f w) j q =
           let s : Sound f.kind j = expr-sound f w j (sym (judge_kind-Paren always number specs f o context) ∙ q) in
-          record { keys = s.keys; good = λ h first steps. subst (λ z. GoodRun Value (λ v. Held v j.type) z) (sym (runs-Paren records arity apply f first environment steps)) (s.good h first steps) }
+          record { keys = s.keys; good = λ h first steps. subst (λ z. GoodRun Value (λ v. Held v j.type) z) (sym (runs-Paren unbound records arity apply f first environment steps)) (s.good h first steps) }
       operand-sound e (G.call n o ms name args w) j q = call-sound n name args (λ js r. args-sound args ms w js r) j q
 
       args-sound : (es : List (Node ExprKind)) (ms : List Place) → AreArguments es ms → (js : JudgedAll) → judge_args always number specs es context ≡ Some js → AreSound es js
@@ -388,8 +389,8 @@ module _ (m : Module) (flat : IsFlatModule m) (hold : Every Holds (owed_of alway
 
   free : (name : Name) (arrow : Arrow) (vs : List Value) → arrows_of (specs_of m) name (length vs) ≡ arrow ∷ [] → built_in (arity_of code) name vs ≡ None
   free name arrow vs e =
-      let d : Among (of_function name (length vs)) (function_ids m) = every-at _ (of_function name (length vs)) (map spec_id (specs_of m)) flat.readable.defined (arrow-named (specs_of m) name (length vs) arrow [] e) in
-      not-built_in name (arity_of code) vs (every-at (λ id. is_built_in id ≡ false) (of_function name (length vs)) (function_ids m) flat.readable.not_built_in d)
+      let d : Among (of_function name (length vs)) (function_ids m) = every-at _ (of_function name (length vs)) (map spec_id (specs_of m)) (flat-names m flat).defined (arrow-named (specs_of m) name (length vs) arrow [] e) in
+      not-built_in name (arity_of code) vs (every-at (λ id. is_built_in id ≡ false) (of_function name (length vs)) (function_ids m) (flat-names m flat).not_built_in d)
 
   all-held : (vs : List Value) (ts : List Term) → AreHeld whole vs ts → all_in (Held whole) vs ts
   all-held [] [] h = tt
@@ -417,13 +418,13 @@ module _ (m : Module) (flat : IsFlatModule m) (hold : Every Holds (owed_of alway
       let t : Taken (Held whole) (bound_by patterns) (variable_type patterns arrow.params) no_bindings (match_patterns (records_of m) patterns vs no_bindings) = take-patterns (Held whole) (records_of m) patterns arrow.params vs no_bindings p.1 distinct.0 len (all-held vs arrow.params h) (λ x z. refl) in
       let layer : out-ClauseKind b.clause.kind ≡ record { patterns = patterns; guard = None; body = b.item ∷ [] } = λ i. record { patterns = patterns; guard = p.0 i; body = b.one_item i } in
       let item : b.item.kind ≡ I.Value b.expression = sym (roll-out-ItemKind b.item.kind) ∙ (ap roll-ItemKind b.is_expression ∙ I.rolls-Value b.expression) in
-      let body : Run Value = (run_kind (records_of m) (arity_of code) apply b.expression.kind).run first t.environment steps in
-      let same : run_clauses taken_anew (choices (records_of m) (arity_of code) apply f.clauses) first no_bindings vs steps ≡ body =
-      ap (λ z. run_clauses taken_anew (choices (records_of m) (arity_of code) apply z) first no_bindings vs steps) b.one_clause
-      ∙ (one_clause-runs (records_of m) (arity_of code) apply b.clause.kind patterns b.item b.expression layer item first vs steps
-      ∙ ap (λ z. run_bound (records_of m) (arity_of code) apply z (λ environment. (run_kind (records_of m) (arity_of code) apply b.expression.kind).run first environment steps) steps) t.is) in
-      let s : Sound whole o.0 (specs_of m) keys-of (records_of m) (arity_of code) apply free called (variable_type patterns arrow.params) t.environment (owns b.clause arrow k p.1 t.environment t.own) b.expression.kind b.judged =
-      expr-sound whole o.0 (specs_of m) keys-of (records_of m) (arity_of code) apply free called (variable_type patterns arrow.params) t.environment (owns b.clause arrow k p.1 t.environment t.own) b.expression b.formed b.judged b.is_judged in
+      let body : Run Value = (run_kind wrong (records_of m) (arity_of code) apply b.expression.kind).run first t.environment steps in
+      let same : run_clauses taken_anew (choices wrong (records_of m) (arity_of code) apply f.clauses) first no_bindings vs steps ≡ body =
+      ap (λ z. run_clauses taken_anew (choices wrong (records_of m) (arity_of code) apply z) first no_bindings vs steps) b.one_clause
+      ∙ (one_clause-runs wrong (records_of m) (arity_of code) apply b.clause.kind patterns b.item b.expression layer item first vs steps
+      ∙ ap (λ z. run_bound wrong (records_of m) (arity_of code) apply z (λ environment. (run_kind wrong (records_of m) (arity_of code) apply b.expression.kind).run first environment steps) steps) t.is) in
+      let s : Sound whole o.0 (specs_of m) keys-of wrong (records_of m) (arity_of code) apply free called (variable_type patterns arrow.params) t.environment (owns b.clause arrow k p.1 t.environment t.own) b.expression.kind b.judged =
+      expr-sound whole o.0 (specs_of m) keys-of wrong (records_of m) (arity_of code) apply free called (variable_type patterns arrow.params) t.environment (owns b.clause arrow k p.1 t.environment t.own) b.expression b.formed b.judged b.is_judged in
       subst (λ z. GoodRun whole Value (λ v. Held whole v arrow.result) z) (sym same) (good-weaker whole (λ v. Held whole v b.judged.type) (λ v. Held whole v arrow.result) body (λ v x. held-within whole b.judged.type arrow.result own.1.0 v x) (s.good own.0 first steps))
     where
       owns : (c : Node ClauseKind) (arrow : Arrow) → IsArrowOfKeys arrow → Every IsPattern (out-ClauseKind c.kind).patterns → (e : Environment) →
@@ -441,9 +442,9 @@ module _ (m : Module) (flat : IsFlatModule m) (hold : Every Holds (owed_of alway
       GoodRun whole Value (λ v. Held whole v arrow.result) (enter code apply (named_fun name (length vs)) vs steps)
   enter-good apply called name arrow vs steps e h =
       let c : Contains (arrows_of (specs_of m) name (length vs)) arrow = subst (λ (z : List Arrow). Contains z arrow) (sym e) (contains-first arrow []) in
-      let d : Among (of_function name (length vs)) (function_ids m) = every-at _ (of_function name (length vs)) (map spec_id (specs_of m)) flat.readable.defined (arrow-named (specs_of m) name (length vs) arrow [] e) in
+      let d : Among (of_function name (length vs)) (function_ids m) = every-at _ (of_function name (length vs)) (map spec_id (specs_of m)) (flat-names m flat).defined (arrow-named (specs_of m) name (length vs) arrow [] e) in
       let f : (f : Function) × Among f (functions_of m) × (of_function name (length vs) ≡ function_id f) = among-source function_id (of_function name (length vs)) (functions_of m) d in
-      let is : find_function (functions_of m) name (length vs) ≡ Some f.0 = ap (λ (z : FunctionId). find_function (functions_of m) z.name z.arity) f.2 ∙ found (functions_of m) f.0 f.1 flat.readable.functions_distinct in
+      let is : find_function (functions_of m) name (length vs) ≡ Some f.0 = ap (λ (z : FunctionId). find_function (functions_of m) z.name z.arity) f.2 ∙ found (functions_of m) f.0 f.1 (flat-names m flat).functions_distinct in
       let n : (first : ℕ) × (find_numbered (numbered (functions_of m) 0) name (length vs) ≡ Some (f.0, first)) = found-numbered (functions_of m) name (length vs) 0 f.0 is in
       let g : GoodRun whole Value (λ v. Held whole v arrow.result) (run_function code apply (Some (f.0, n.0)) vs steps) = function-good apply called f.0 f.1 arrow (subst (λ (z : FunctionId). Contains (arrows_of (specs_of m) z.name z.arity) arrow) f.2 c) n.0 vs steps h in
       let run : Run Value = run_function code apply (find_numbered (numbered (functions_of m) 0) name (length vs)) vs steps in

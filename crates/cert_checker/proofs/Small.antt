@@ -30,12 +30,17 @@ use Rattle.erl_grammar.specs.FormNesting.{form_deep, IsModuleWithin}
 use Rattle.erl_grammar.proofs.NestingLaws.{pattern_kind_deep-Var, expr_deep_laws, item_kind_deep-Value, clause_kind_deep-clause_of}
 use Rattle.erl_grammar.proofs.TypeNestingLaws.{type_deep_laws}
 use Rattle.erl_runs.specs.Specs.{type_term, and_then, all_present, clause_arrow, arrows_arity, function_spec, read_specs, specs_of, spec_id}
-use Rattle.erl_runs.specs.Readable.{built_ins, used_in, called_in, IsReadable}
-use Rattle.erl_tree.specs.Functions.{FunctionId, of_function, function_ids, functions_of}
+use Rattle.scope_rules.specs.ScopeFaults.{HasRightNames}
+use Rattle.scope_rules.proofs.OccurrenceLaws.{variables_equations, part_equations}
+use Rattle.scope_rules.proofs.FaultLaws.{pattern_fault_equations, fault_equations}
+use Rattle.readable_modules.specs.Readable.{IsReadable}
+use Rattle.flat_modules.specs.FlatNames.{called_in}
+use Rattle.erl_tree.specs.Functions.{FunctionId, of_function, functions_of}
 use Rattle.flat_modules.specs.FlatModules.{IsFlatModule}
 use Rattle.flat_modules.proofs.TreeLaws.{expr_tokens_laws, type_tokens_laws}
 use Rattle.flat_modules.proofs.FlatLaws.{AreInLimit, flat-module}
-use Rattle.erl_runs.proofs.MeaningLaws.{used_laws, called_laws, type_term_laws}
+use Rattle.erl_runs.proofs.TypeTermLaws.{type_term_laws}
+use Rattle.flat_modules.proofs.FlatNameEquations.{called_laws}
 use Rattle.cert_checker.specs.Examples as X
 use Rattle.cert_checker.specs.Examples.{place, leaf, integer_type, small_spec_clause, small_spec, small_clause, small_module, identity, constant, recursive_call, recursive, two_calls, second_call_wrong, integers, spec_to_integers, small_specs}
 use Rattle.erl_runs.specs.Specs.{one_integer}
@@ -58,10 +63,9 @@ use Rattle.cert_checker.proofs.JudgeLaws.{judge_laws}
 use Rattle.cert_checker.proofs.Refutations.{refuted-fails, call-refuted}
 use Rattle.cert_checker.proofs.Safe.{holds-safe}
 use Rattle.cert_checker.proofs.SmallRuns.{first-found, small-applied, call-runs}
-use Rattle.cert_checker.proofs.Lists.{every-join}
 
-append-none : {A : Type 0} (P : A → Type 0) (xs : List A) → Every P xs → Every P (xs ++ [])
-append-none P xs h = every-join P xs [] h tt
+-- the equations by which a module is found to have no fault of names
+ruleset name_laws = (part_equations, variables_equations, fault_equations, pattern_fault_equations)
 
 -- ---- integers within the limit
 
@@ -112,16 +116,6 @@ spec-read name line close type t e =
     λ j. and_then (and_then (e j) (λ a. and_then (all_present []) (λ more. Some (a ∷ more)))) (λ params. and_then (integer-term line (close + 5) j) (λ result. Some (record { params = params; result = result }))) in
     ap (λ (o : Option Arrow). and_then (and_then o (λ a. and_then (all_present []) (λ more. Some (a ∷ more)))) (λ arrows. Some (record { name = name; arity = arrows_arity arrows; vars = 0; clauses = arrows }))) a
 
-among-left : (id : FunctionId) (ids others : List FunctionId) → Among id ids → Among id (ids ++ others)
-among-left id (i ∷ ids) others (inl e) = inl e
-among-left id (i ∷ ids) others (inr a) = inr (among-left id ids others a)
-among-left id [] others a = absurd a
-
--- calls of some functions are calls of these or others
-wider : (ids others called : List FunctionId) → Every (λ id. Among id ids) called → Every (λ id. Among id (ids ++ others)) called
-wider ids others [] h = tt
-wider ids others (id ∷ called) h = (among-left id ids others h.0, wider ids others called h.1)
-
 -- ---- nesting
 
 spec-within : (name : Name) (line close : ℕ) (type : Node TypeKind) → IsTypeWithin nesting_limit type → form_deep (F.Spec (small_spec name line close type)) nesting_limit ≡ []
@@ -143,22 +137,16 @@ module _ (dot : ℕ) (e : Node ExprKind) where
   unfolding specs_of
   specs-are = ap (λ (o : Option (List FunSpec)). unwrap_or o []) specs-read
 
-  module _ (formed : IsExpr e) (used : Every (λ x. Among x (codes "X" ∷ [])) (used_in e.kind)) (called : Every (λ id. Among id (of_function (codes "f") 1 ∷ [])) (called_in e.kind)) (within : IsExprWithin nesting_limit e) (limit : AreInLimit (tokens_of (small_module dot e))) where
+  module _ (formed : IsExpr e) (names : HasRightNames (small_module dot e)) (called : Every (λ id. Among id (of_function (codes "f") 1 ∷ [])) (called_in e.kind)) (within : IsExprWithin nesting_limit e) (limit : AreInLimit (tokens_of (small_module dot e))) where
     small-formed : IsWellFormed (small_module dot e)
     unfolding IsWellFormed Rattle.erl_tree.specs.declared.type_expr.TypeKind.TheViews.out-TypeKind denote.Hole.Carrier.out Rattle.erl_tree.specs.declared.pattern.PatternKind.TheViews.out-PatternKind Rattle.erl_tree.specs.declared.expr.ExprKind.TheViews.out-ItemKind Rattle.erl_tree.specs.declared.expr.ExprKind.TheBlock.shown-the_row-ExprKind-0 denote.Hole.Carrier.shown denote.Hole.Carrier.hidden
     small-formed = ((refl, (refl, (integer-formed 2 9, tt), omega arith, tt, integer-formed 2 23, refl)), ((refl, (refl, refl, (refl, tt), omega arith, tt, (refl, formed))), tt))
 
     small-readable : IsReadable (small_module dot e)
-    unfolding Rattle.erl_tree.specs.declared.type_expr.TypeKind.TheViews.out-TypeKind denote.Hole.Carrier.out Rattle.erl_tree.specs.declared.pattern.PatternKind.TheViews.out-PatternKind Rattle.erl_tree.specs.declared.expr.ExprKind.TheViews.out-ItemKind Rattle.erl_tree.specs.declared.expr.ExprKind.TheBlock.shown-the_row-ExprKind-0 denote.Hole.Carrier.shown denote.Hole.Carrier.hidden
     small-readable = record {
+      right_names = names;
       specs_read = specs-read ∙ ap Some (sym specs-are);
-      functions_distinct = ((λ x. x), tt);
-      not_built_in = (refl, tt);
       specs_distinct = subst (λ (z : List FunSpec). AreDistinct (map spec_id z)) (sym specs-are) ((λ x. x), tt);
-      specified = subst (λ (z : List FunSpec). Every (λ id. Among id (map spec_id z)) (function_ids (small_module dot e))) (sym specs-are) (inl refl, tt);
-      defined = subst (λ (z : List FunSpec). Every (λ id. Among id (function_ids (small_module dot e))) (map spec_id z)) (sym specs-are) (inl refl, tt);
-      scoped = ((append-none (λ x. Among x (codes "X" ∷ [])) (used_in e.kind) used, tt), tt);
-      calls_defined = (((wider (of_function (codes "f") 1 ∷ []) built_ins (called_in e.kind) called, tt), tt), tt);
     }
 
     small-within : IsModuleWithin nesting_limit (small_module dot e)
@@ -169,22 +157,28 @@ module _ (dot : ℕ) (e : Node ExprKind) where
     small-flat = flat-module (small_module dot e) small-formed small-readable ((((λ x. x), tt), tt), tt) (((called, tt), tt), tt) small-within limit
 
 -- an expression of one token
-leaf-flat : (e : ExprKind) → IsExpr (leaf 3 9 e) → Every (λ x. Among x (codes "X" ∷ [])) (used_in e) → Every (λ id. Among id (of_function (codes "f") 1 ∷ [])) (called_in e) → IsExprWithin nesting_limit (leaf 3 9 e) → AreInLimit (tokens_of (small_module 10 (leaf 3 9 e))) → IsFlatModule (small_module 10 (leaf 3 9 e))
-leaf-flat e formed used called within limit = small-flat 10 (leaf 3 9 e) formed used called within limit
+leaf-flat : (e : ExprKind) → IsExpr (leaf 3 9 e) → HasRightNames (small_module 10 (leaf 3 9 e)) → Every (λ id. Among id (of_function (codes "f") 1 ∷ [])) (called_in e) → IsExprWithin nesting_limit (leaf 3 9 e) → AreInLimit (tokens_of (small_module 10 (leaf 3 9 e))) → IsFlatModule (small_module 10 (leaf 3 9 e))
+leaf-flat e formed names called within limit = small-flat 10 (leaf 3 9 e) formed names called within limit
 
 limit-identity : AreInLimit (tokens_of identity)
 unfolding tokens_of all_below below_limit Rattle.erl_tree.specs.declared.type_expr.TypeKind.TheViews.out-TypeKind denote.Hole.Carrier.out Rattle.erl_tree.specs.declared.pattern.PatternKind.TheViews.out-PatternKind Rattle.erl_tree.specs.declared.expr.ExprKind.TheViews.out-ItemKind Rattle.erl_tree.specs.declared.expr.ExprKind.TheBlock.shown-the_row-ExprKind-0 denote.Hole.Carrier.shown denote.Hole.Carrier.hidden
 limit-identity = tokens-in_limit (tokens_of identity) (simp (type_tokens_laws, expr_tokens_laws) refl)
 
+identity-names : HasRightNames identity
+identity-names = simp name_laws
+
 pub identity-flat : IsFlatModule identity
-identity-flat = leaf-flat (E.Var (codes "X")) (one_product _ (one_operand _ (variable (place 3 9) (codes "X")))) (simp used_laws (inl refl, tt)) (simp called_laws tt) (simp expr_deep_laws refl) limit-identity
+identity-flat = leaf-flat (E.Var (codes "X")) (one_product _ (one_operand _ (variable (place 3 9) (codes "X")))) identity-names (simp called_laws tt) (simp expr_deep_laws refl) limit-identity
 
 limit-constant : AreInLimit (tokens_of constant)
 unfolding tokens_of all_below below_limit Rattle.erl_tree.specs.declared.type_expr.TypeKind.TheViews.out-TypeKind denote.Hole.Carrier.out Rattle.erl_tree.specs.declared.pattern.PatternKind.TheViews.out-PatternKind Rattle.erl_tree.specs.declared.expr.ExprKind.TheViews.out-ItemKind Rattle.erl_tree.specs.declared.expr.ExprKind.TheBlock.shown-the_row-ExprKind-0 denote.Hole.Carrier.shown denote.Hole.Carrier.hidden
 limit-constant = tokens-in_limit (tokens_of constant) (simp (type_tokens_laws, expr_tokens_laws) refl)
 
+constant-names : HasRightNames constant
+constant-names = simp name_laws
+
 pub constant-flat : IsFlatModule constant
-constant-flat = leaf-flat (E.Atom (codes "a")) (one_product _ (one_operand _ (atom (place 3 9) (codes "a")))) (simp used_laws tt) (simp called_laws tt) (simp expr_deep_laws refl) limit-constant
+constant-flat = leaf-flat (E.Atom (codes "a")) (one_product _ (one_operand _ (atom (place 3 9) (codes "a")))) constant-names (simp called_laws tt) (simp expr_deep_laws refl) limit-constant
 
 limit-recursive : AreInLimit (tokens_of recursive)
 unfolding tokens_of all_below below_limit Rattle.erl_tree.specs.declared.type_expr.TypeKind.TheViews.out-TypeKind denote.Hole.Carrier.out Rattle.erl_tree.specs.declared.pattern.PatternKind.TheViews.out-PatternKind Rattle.erl_tree.specs.declared.expr.ExprKind.TheViews.out-ItemKind Rattle.erl_tree.specs.declared.expr.ExprKind.TheBlock.shown-the_row-ExprKind-0 denote.Hole.Carrier.shown denote.Hole.Carrier.hidden
@@ -199,8 +193,11 @@ recursive-formed = one_product _ (one_operand _ (call (place 3 9) (place 3 10) (
 recursive-within : IsExprWithin nesting_limit recursive_call
 recursive-within = simp expr_deep_laws refl
 
+recursive-names : HasRightNames recursive
+recursive-names = simp name_laws
+
 pub recursive-flat : IsFlatModule recursive
-recursive-flat = small-flat 17 recursive_call recursive-formed (simp used_laws (inl refl, tt)) (simp called_laws (inl refl, tt)) recursive-within limit-recursive
+recursive-flat = small-flat 17 recursive_call recursive-formed recursive-names (simp called_laws (inl refl, tt)) recursive-within limit-recursive
 
 -- ---- what the modules owe
 
@@ -259,11 +256,11 @@ module _ (dot : ℕ) (e : Node ExprKind) where
 
 pub identity-gives : apply (code_of identity []) (V.named_fun (codes "f") 1) (V.integer (pos 7) ∷ []) 5 ≡ record { outcome = V.came (V.integer (pos 7)); left = 4; calls = record { name = codes "f"; args = V.integer (pos 7) ∷ []; left = 4 } ∷ [] }
 identity-gives = small-runs 10 (leaf 3 9 (E.Var (codes "X"))) (V.integer (pos 7)) 4
-    ∙ ap (λ r. R.with_calls (call_of_f (V.integer (pos 7)) 4 ∷ []) r) (runs-Var [] (R.arity_of (code_of identity [])) (apply (code_of identity [])) (codes "X") 0 (with_x (V.integer (pos 7))) 4)
+    ∙ ap (λ r. R.with_calls (call_of_f (V.integer (pos 7)) 4 ∷ []) r) (runs-Var V.wrong [] (R.arity_of (code_of identity [])) (apply (code_of identity [])) (codes "X") 0 (with_x (V.integer (pos 7))) 4)
 
 pub unbound-wrong : (apply (code_of X.unbound []) (V.named_fun (codes "f") 1) (V.integer (pos 7) ∷ []) 5).outcome ≡ V.wrong
 unbound-wrong = ap (λ r. r.outcome) (small-runs 10 (leaf 3 9 (E.Var (codes "Y"))) (V.integer (pos 7)) 4)
-    ∙ ap (λ r. r.outcome) (runs-Var [] (R.arity_of (code_of X.unbound [])) (apply (code_of X.unbound [])) (codes "Y") 0 (with_x (V.integer (pos 7))) 4)
+    ∙ ap (λ r. r.outcome) (runs-Var V.wrong [] (R.arity_of (code_of X.unbound [])) (apply (code_of X.unbound [])) (codes "Y") 0 (with_x (V.integer (pos 7))) 4)
 
 pub arity-wrong : (apply (code_of identity []) (V.named_fun (codes "f") 2) (V.integer (pos 7) ∷ []) 5).outcome ≡ V.wrong
 unfolding apply_within
@@ -275,7 +272,7 @@ none-goes = refl
 
 constant-gives : (apply (code_of constant []) (V.named_fun (codes "f") 1) (V.integer (pos 7) ∷ []) 1).outcome ≡ V.came (V.atom (codes "a"))
 constant-gives = ap (λ r. r.outcome) (small-runs 10 (leaf 3 9 (E.Atom (codes "a"))) (V.integer (pos 7)) 0)
-    ∙ ap (λ r. r.outcome) (runs-Atom [] (R.arity_of (code_of constant [])) (apply (code_of constant [])) (codes "a") 0 (with_x (V.integer (pos 7))) 0)
+    ∙ ap (λ r. r.outcome) (runs-Atom V.wrong [] (R.arity_of (code_of constant [])) (apply (code_of constant [])) (codes "a") 0 (with_x (V.integer (pos 7))) 0)
 
 abbrev recursive_code : Code
 recursive_code = code_of recursive []
@@ -284,12 +281,12 @@ recursive_code = code_of recursive []
 one_less-runs : (n : ℤ) (steps : ℕ) → R.run_expression recursive_code (apply recursive_code) X.one_less 0 (with_x (V.integer n)) steps ≡ R.gives (V.integer (n -ℤ pos 1)) steps
 unfolding R.then
 one_less-runs n steps =
-    runs-Binary [] (R.arity_of recursive_code) (apply recursive_code) Sub (leaf 3 11 (E.Var (codes "X"))) (leaf 3 15 (E.Int (pos 1))) 0 (with_x (V.integer n)) steps
-    ∙ (ap (λ r. R.then r (λ v left. R.run_operator Sub v (λ rest. (one (leaf 3 15 (E.Int (pos 1)))).run behind_x (with_x (V.integer n)) rest) left)) (runs-Var [] (R.arity_of recursive_code) (apply recursive_code) (codes "X") 0 (with_x (V.integer n)) steps)
-    ∙ ap (λ r. R.then r (λ w left. R.ends (operate Sub (V.integer n) w) left)) (runs-Int [] (R.arity_of recursive_code) (apply recursive_code) (pos 1) behind_x (with_x (V.integer n)) steps))
+    runs-Binary V.wrong [] (R.arity_of recursive_code) (apply recursive_code) Sub (leaf 3 11 (E.Var (codes "X"))) (leaf 3 15 (E.Int (pos 1))) 0 (with_x (V.integer n)) steps
+    ∙ (ap (λ r. R.then r (λ v left. R.run_operator Sub v (λ rest. (one (leaf 3 15 (E.Int (pos 1)))).run behind_x (with_x (V.integer n)) rest) left)) (runs-Var V.wrong [] (R.arity_of recursive_code) (apply recursive_code) (codes "X") 0 (with_x (V.integer n)) steps)
+    ∙ ap (λ r. R.then r (λ w left. R.ends (operate Sub (V.integer n) w) left)) (runs-Int V.wrong [] (R.arity_of recursive_code) (apply recursive_code) (pos 1) behind_x (with_x (V.integer n)) steps))
   where
     one : Node ExprKind → R.Part V.Value
-    one e = expr_part [] (R.arity_of recursive_code) (apply recursive_code) e
+    one e = expr_part V.wrong [] (R.arity_of recursive_code) (apply recursive_code) e
 
     behind_x : ℕ
     behind_x = R.behind 0 (one (leaf 3 11 (E.Var (codes "X")))).funs
@@ -332,9 +329,6 @@ apart e = true≢false (ap (λ (id : FunctionId). same_name id.name (codes "f"))
 both-distinct : AreDistinct both_ids
 both-distinct = ((λ a. elim a [ inl e ↦ apart e | inr b ↦ b ]), ((λ a. a), tt))
 
-both-among : Every (λ id. Among id both_ids) both_ids
-both-among = (inl refl, (inr (inl refl), tt))
-
 limit-second : AreInLimit (tokens_of second_call_wrong)
 unfolding tokens_of all_below below_limit Rattle.erl_tree.specs.declared.type_expr.TypeKind.TheViews.out-TypeKind denote.Hole.Carrier.out Rattle.erl_tree.specs.declared.pattern.PatternKind.TheViews.out-PatternKind Rattle.erl_tree.specs.declared.expr.ExprKind.TheViews.out-ItemKind Rattle.erl_tree.specs.declared.expr.ExprKind.TheBlock.shown-the_row-ExprKind-0 denote.Hole.Carrier.shown denote.Hole.Carrier.hidden
 limit-second = tokens-in_limit (tokens_of second_call_wrong) (simp (type_tokens_laws, expr_tokens_laws) refl)
@@ -355,9 +349,6 @@ leaf-within = simp expr_deep_laws refl
 
 atom-within : (line column : ℕ) → IsTypeWithin nesting_limit (X.atom_type line column)
 atom-within line column = simp type_deep_laws refl
-
-two-used : used_in two_calls.kind ≡ codes "Y" ∷ []
-two-used = simp used_laws refl
 
 two-called : called_in two_calls.kind ≡ of_function (codes "f") 1 ∷ of_function (codes "f") 1 ∷ []
 two-called = simp called_laws refl
@@ -381,17 +372,14 @@ second-formed = (
 two-own : Every (λ id. Among id both_ids) (called_in two_calls.kind)
 two-own = subst (λ z. Every (λ id. Among id both_ids) z) (sym two-called) (inl refl, (inl refl, tt))
 
+second-names : HasRightNames second_call_wrong
+second-names = simp name_laws
+
 second-readable : IsReadable second_call_wrong
-unfolding Rattle.erl_tree.specs.declared.type_expr.TypeKind.TheViews.out-TypeKind denote.Hole.Carrier.out Rattle.erl_tree.specs.declared.pattern.PatternKind.TheViews.out-PatternKind Rattle.erl_tree.specs.declared.expr.ExprKind.TheViews.out-ItemKind Rattle.erl_tree.specs.declared.expr.ExprKind.TheBlock.shown-the_row-ExprKind-0 denote.Hole.Carrier.shown denote.Hole.Carrier.hidden
 second-readable = record {
+  right_names = second-names;
   specs_read = both-read ∙ ap Some (sym both-are);
-  functions_distinct = both-distinct;
-  not_built_in = (refl, (refl, tt));
   specs_distinct = subst (λ (z : List FunSpec). AreDistinct (map spec_id z)) (sym both-are) both-distinct;
-  specified = subst (λ (z : List FunSpec). Every (λ id. Among id (map spec_id z)) (function_ids second_call_wrong)) (sym both-are) both-among;
-  defined = subst (λ (z : List FunSpec). Every (λ id. Among id (function_ids second_call_wrong)) (map spec_id z)) (sym both-are) both-among;
-  scoped = ((simp used_laws (inl refl, tt), tt), ((simp used_laws (inl refl, tt), tt), tt));
-  calls_defined = (((simp called_laws tt, tt), tt), (((wider both_ids built_ins (called_in two_calls.kind) two-own, tt), tt), tt));
 }
 
 second-within : IsModuleWithin nesting_limit second_call_wrong
@@ -416,27 +404,27 @@ with_y = with_variable (codes "Y") (V.atom (codes "a")) V.no_bindings
 -- `f` gives its argument back
 f-gives : (v : V.Value) (steps : ℕ) → apply second_code (V.named_fun (codes "f") 1) (v ∷ []) (suc steps) ≡ record { outcome = V.came v; left = steps; calls = call_of_f v steps ∷ [] }
 f-gives v steps = small-applied (codes "f") 3 10 (codes "X") (leaf 3 9 (E.Var (codes "X"))) refl second_code 0 (first-found (codes "f") 3 10 (codes "X") (leaf 3 9 (E.Var (codes "X"))) ((small_function (codes "g") 5 20 (codes "Y") two_calls, second_first) ∷ []) 0) v steps
-    ∙ ap (λ r. R.with_calls (call_of_f v steps ∷ []) r) (runs-Var [] (R.arity_of second_code) (apply second_code) (codes "X") 0 (with_x v) steps)
+    ∙ ap (λ r. R.with_calls (call_of_f v steps ∷ []) r) (runs-Var V.wrong [] (R.arity_of second_code) (apply second_code) (codes "X") 0 (with_x v) steps)
 
 -- `f(1)`, and `f(Y)`
 one-gives : (first steps : ℕ) → R.run_expression second_code (apply second_code) (X.small_call 9 (E.Int (pos 1))) first with_y (suc steps) ≡ record { outcome = V.came (V.integer (pos 1)); left = steps; calls = call_of_f (V.integer (pos 1)) steps ∷ [] }
-one-gives first steps = call-runs second_code (apply second_code) (leaf 5 11 (E.Int (pos 1))) (V.integer (pos 1)) first with_y (suc steps) (runs-Int [] (R.arity_of second_code) (apply second_code) (pos 1) first with_y (suc steps))
+one-gives first steps = call-runs second_code (apply second_code) (leaf 5 11 (E.Int (pos 1))) (V.integer (pos 1)) first with_y (suc steps) (runs-Int V.wrong [] (R.arity_of second_code) (apply second_code) (pos 1) first with_y (suc steps))
     ∙ f-gives (V.integer (pos 1)) steps
 
 a-gives : (first steps : ℕ) → R.run_expression second_code (apply second_code) (X.small_call 16 (E.Var (codes "Y"))) first with_y (suc steps) ≡ record { outcome = V.came (V.atom (codes "a")); left = steps; calls = call_of_f (V.atom (codes "a")) steps ∷ [] }
-a-gives first steps = call-runs second_code (apply second_code) (leaf 5 18 (E.Var (codes "Y"))) (V.atom (codes "a")) first with_y (suc steps) (runs-Var [] (R.arity_of second_code) (apply second_code) (codes "Y") first with_y (suc steps))
+a-gives first steps = call-runs second_code (apply second_code) (leaf 5 18 (E.Var (codes "Y"))) (V.atom (codes "a")) first with_y (suc steps) (runs-Var V.wrong [] (R.arity_of second_code) (apply second_code) (codes "Y") first with_y (suc steps))
     ∙ f-gives (V.atom (codes "a")) steps
 
 -- `f(1) + f(Y)`, where Y is `a`
 two-wrong : (first : ℕ) → (R.run_expression second_code (apply second_code) two_calls first with_y 2).outcome ≡ V.wrong
 unfolding R.then
 two-wrong first =
-    ap (λ r. r.outcome) (runs-Binary [] (R.arity_of second_code) (apply second_code) Add (X.small_call 9 (E.Int (pos 1))) (X.small_call 16 (E.Var (codes "Y"))) first with_y 2)
+    ap (λ r. r.outcome) (runs-Binary V.wrong [] (R.arity_of second_code) (apply second_code) Add (X.small_call 9 (E.Int (pos 1))) (X.small_call 16 (E.Var (codes "Y"))) first with_y 2)
     ∙ (ap (λ r. (R.then r (λ v left. R.run_operator Add v (λ rest. (one (X.small_call 16 (E.Var (codes "Y")))).run behind_one with_y rest) left)).outcome) (one-gives first 1)
     ∙ ap (λ r. (R.then r (λ w left. R.ends (operate Add (V.integer (pos 1)) w) left)).outcome) (a-gives behind_one 0))
   where
     one : Node ExprKind → R.Part V.Value
-    one e = expr_part [] (R.arity_of second_code) (apply second_code) e
+    one e = expr_part V.wrong [] (R.arity_of second_code) (apply second_code) e
 
     behind_one : ℕ
     behind_one = R.behind first (one (X.small_call 9 (E.Int (pos 1)))).funs

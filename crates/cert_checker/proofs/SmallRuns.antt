@@ -16,7 +16,7 @@ use Rattle.erl_tree.specs.declared.expr.ClauseKind.{ClauseKind, roll-ClauseKind,
 use Rattle.erl_tree.specs.declared.expr.ExprKind.TheOpen as O
 use Rattle.erl_tree.specs.declared.form.Function.{Function}
 use Rattle.erl_tree.specs.Functions.{clauses_arity}
-use Rattle.erl_runs.specs.Readable.{is_wildcard}
+use Rattle.erl_runs.specs.Names.{is_wildcard}
 use Rattle.erl_runs.specs.Value.{Value, named_fun, Environment, no_bindings}
 use Rattle.erl_runs.specs.Matching.{with_variable, Match, match_next, match_patterns, match_variable}
 use Rattle.erl_runs.specs.Operations.{built_in}
@@ -50,8 +50,8 @@ module _ (name : Name) (line dot : ℕ) (x : Name) (e : Node ExprKind) where
   -- the body is run with the argument for the variable
   function-runs : is_wildcard x ≡ false → (code : Code) (applies : Applies) (first : ℕ) (v : Value) (steps : ℕ) → run_function code applies (Some (function, first)) (v ∷ []) steps ≡ run_expression code applies e first (with_variable x v no_bindings) steps
   function-runs named code applies first v steps =
-      one_clause-runs code.records (arity_of code) applies (roll-ClauseKind small_layer) small_layer.patterns (record { place = e.place; marks = []; kind = I.Value e }) e (out-roll-ClauseKind small_layer) refl first (v ∷ []) steps
-      ∙ ap (λ o. run_bound code.records (arity_of code) applies o (λ environment. run_expression code applies e first environment steps) steps) bound
+      one_clause-runs code.unbound code.records (arity_of code) applies (roll-ClauseKind small_layer) small_layer.patterns (record { place = e.place; marks = []; kind = I.Value e }) e (out-roll-ClauseKind small_layer) refl first (v ∷ []) steps
+      ∙ ap (λ o. run_bound code.unbound code.records (arity_of code) applies o (λ environment. run_expression code applies e first environment steps) steps) bound
     where
       bound-by : (b : Bool) → b ≡ false → match_next (cond b (Some no_bindings) (match_variable None x v no_bindings)) (match_patterns code.records [] []) ≡ Some (with_variable x v no_bindings)
       bound-by b h = ap (λ b. match_next (cond b (Some no_bindings) (match_variable None x v no_bindings)) (match_patterns code.records [] [])) h
@@ -71,8 +71,8 @@ module _ (name : Name) (line dot : ℕ) (x : Name) (e : Node ExprKind) where
 
 -- a call of the function `f` with an argument that gives a value applies the function to it
 pub call-runs : (code : Code) (applies : Applies) (argument : Node ExprKind) (v : Value) (first : ℕ) (environment : Environment) (steps : ℕ) → run_expression code applies argument first environment steps ≡ gives v steps →
-    (run_kind code.records (arity_of code) applies (E.Call None (codes "f") (argument ∷ []))).run first environment steps ≡ applies (named_fun (codes "f") 1) (v ∷ []) steps
+    (run_kind code.unbound code.records (arity_of code) applies (E.Call None (codes "f") (argument ∷ []))).run first environment steps ≡ applies (named_fun (codes "f") 1) (v ∷ []) steps
 unfolding then
 call-runs code applies argument v first environment steps h =
-    runs-Call code.records (arity_of code) applies None (codes "f") (argument ∷ []) first environment steps
-    ∙ ap (λ r. then (then r (λ v left. then (gives [] left) (λ vs rest. gives (v ∷ vs) rest))) (λ vs left. run_call None (built_in (arity_of code) (codes "f") vs) (λ rest. applies (named_fun (codes "f") (length vs)) vs rest) left)) h
+    runs-Call code.unbound code.records (arity_of code) applies None (codes "f") (argument ∷ []) first environment steps
+    ∙ ap (λ r. then (then r (λ v left. then (gives [] left) (λ vs rest. gives (v ∷ vs) rest))) (λ vs left. run_call code.unbound None (built_in (arity_of code) (codes "f") vs) (λ rest. applies (named_fun (codes "f") (length vs)) vs rest) left)) h

@@ -21,7 +21,7 @@ use Rattle.erl_tree.specs.Functions.{FunctionId, clauses_arity, function_id, fun
 use Rattle.erl_runs.specs.Specs.{and_then, all_present, type_term, clause_arrow, function_spec, specs_in, specs_of, spec_id, specified_id}
 use Rattle.flat_modules.specs.Grammar.{IsSpec, IsSpecClause}
 use Rattle.flat_modules.specs.FlatModules.{IsFlatModule}
-use Rattle.flat_modules.proofs.FlatLaws.{flat-formed}
+use Rattle.flat_modules.proofs.FlatLaws.{flat-formed, flat-names}
 use Rattle.erl_runs.specs.Membership.{arrows_if, arrows_of}
 use Rattle.function_table.specs.Table.{Entry, ids, IsInsertion}
 use Rattle.cert_checker.specs.SpecTables.{HoldsSpecs, Adds, IsFirstArrow, IsArrowAt}
@@ -213,7 +213,7 @@ found-arrow m table name arity k flat holds a =
 
 pub is-found : (m : Module) (table : List Entry) (f : Function) → IsFlatModule m → HoldsSpecs m.forms (length m.forms) table → Among f (functions_of m) → (Among (function_id f) (ids table) → ⊥) → ⊥
 is-found m table f flat holds a absent =
-    let d : Among (function_id f) (map spec_id (specs_of m)) = every-at _ (function_id f) (function_ids m) flat.readable.specified (among-map function_id f (functions_of m) a) in
+    let d : Among (function_id f) (map spec_id (specs_of m)) = every-at _ (function_id f) (function_ids m) (flat-names m flat).specified (among-map function_id f (functions_of m) a) in
     let t : (s : Node SpecKind) × (g : FunSpec) × Among s (specs_in m.forms) × (function_spec s ≡ Some g) × (function_id f ≡ spec_id g) = id-tree (specs_in m.forms) (specs_of m) (function_id f) flat.readable.specs_read d in
     let p : (k : ℕ) × (slice_get m.forms k ≡ Some (F.Spec t.0)) = tree-place m.forms t.0 t.2 in
     let r : IsReadSpec t.0 t.1 = read-spec t.0 t.1 (every-at IsSpec t.0 (specs_in m.forms) (forms-specs m.forms (well_formed-forms m (flat-formed m flat))) t.2) t.3 in
@@ -222,7 +222,7 @@ is-found m table f flat holds a absent =
 -- the one arrow of a function of a flat module
 pub own-arrow : (m : Module) (f : Function) → IsFlatModule m → Among f (functions_of m) → (arrow : Arrow) × (arrows_of (specs_of m) f.name (clauses_arity f.clauses) ≡ arrow ∷ []) × (clauses_arity f.clauses ≡ length arrow.params)
 own-arrow m f flat a =
-    let d : Among (function_id f) (map spec_id (specs_of m)) = every-at _ (function_id f) (function_ids m) flat.readable.specified (among-map function_id f (functions_of m) a) in
+    let d : Among (function_id f) (map spec_id (specs_of m)) = every-at _ (function_id f) (function_ids m) (flat-names m flat).specified (among-map function_id f (functions_of m) a) in
     let t : (s : Node SpecKind) × (g : FunSpec) × Among s (specs_in m.forms) × (function_spec s ≡ Some g) × (function_id f ≡ spec_id g) = id-tree (specs_in m.forms) (specs_of m) (function_id f) flat.readable.specs_read d in
     let b : (g : FunSpec) × (function_spec t.0 ≡ Some g) × Among g (specs_of m) = tree-among (specs_in m.forms) (specs_of m) t.0 flat.readable.specs_read t.2 in
     let r : IsReadSpec t.0 b.0 = read-spec t.0 b.0 (every-at IsSpec t.0 (specs_in m.forms) (forms-specs m.forms (well_formed-forms m (flat-formed m flat))) t.2) b.1 in

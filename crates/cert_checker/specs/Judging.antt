@@ -13,7 +13,8 @@ use Rattle.key_sets.specs.declared.key_set.KeySet.{KeySet}
 use Rattle.erl_tree.specs.declared.token.Node.{Node}
 use Rattle.erl_tree.specs.declared.pattern.PatternKind.{PatternKind, out-PatternKind}
 use Rattle.erl_tree.specs.declared.token.Place.{Place}
-use Rattle.erl_runs.specs.Readable.{is_wildcard, bound_layer}
+use Rattle.erl_runs.specs.Names.{is_wildcard}
+use Rattle.flat_modules.specs.FlatNames.{bound_layer}
 use Rattle.erl_tree.specs.declared.expr.ExprKind.{ExprKind}
 use Rattle.erl_tree.specs.declared.expr.ExprKind.TheOpen as E
 use Rattle.erl_tree.specs.declared.expr.ItemKind.{ItemKind, out-ItemKind}

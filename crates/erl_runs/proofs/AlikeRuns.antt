@@ -22,7 +22,7 @@ use Rattle.erl_runs.specs.Value.{Value, nil, named_fun, closure, Environment, no
 use Rattle.erl_runs.specs.Matching.{variable_value, match_next, match_pattern}
 use Rattle.erl_runs.specs.Records.{find_record}
 use Rattle.erl_runs.specs.Operations.{truth_of, operate, built_in, Association}
-use Rattle.erl_runs.specs.Running.{ends, gives, goes_wrong, still_going, then, gives_found, Part, Does, Choice, Applies, is_fun_layer, with_itself, part, parts, all_of, funs_in, funs_in_choices, behind, run_all, run_body, allowed, taken, anew, taken_anew, or_else, run_taken, run_clauses, is_true, test_holds, guard_holds, class_name, run_of, run_catches, run_rest, run_after, finally, optional, funs_in_optional, run_try, run_each, run_qualifiers, passing, passing_truth, run_filter, names_of, field_parts, new_record, changed_record, decided, run_operator, run_call, literal, tail_part, run_layer, matched, run_item_layer, front, environments_of, generated, run_qualifier_layer, run_assoc_layer, run_clause_layer, match_class, match_caught, run_catch_layer, run_kind, choice_kind, choices, Code, arity_of, run_function, run_closure}
+use Rattle.erl_runs.specs.Running.{ends, gives, goes_wrong, still_going, then, meaning, gives_found, Part, Does, Choice, Applies, is_fun_layer, with_itself, part, parts, all_of, funs_in, funs_in_choices, behind, run_all, run_body, allowed, taken, anew, taken_anew, or_else, run_taken, run_clauses, is_true, test_holds, guard_holds, class_name, run_of, run_catches, run_rest, run_after, finally, optional, funs_in_optional, run_try, run_each, run_qualifiers, passing, passing_truth, run_filter, names_of, field_parts, new_record, changed_record, decided, run_operator, run_call, literal, tail_part, run_layer, matched, run_item_layer, front, environments_of, generated, run_qualifier_layer, run_assoc_layer, run_clause_layer, match_class, match_caught, run_catch_layer, run_kind, choice_kind, choices, Code, arity_of, run_function, run_closure}
 use Rattle.erl_runs.proofs.RunLaws.{Trees, item_kind, qualifier_kind, assoc_kind, caught_kind, with_expr, with_item, with_qualifier, with_assoc, with_caught, with_choice, expr_layer, item_layer, qualifier_layer, assoc_layer, caught_layer, choice_layer, expr-rolls, item-rolls, qualifier-rolls, assoc-rolls, caught-rolls, choice-rolls}
 
 -- a relation of a run from m steps and one from `shift m` steps, which endings and sequencing keep
@@ -237,32 +237,32 @@ module _ (κ : RunRelation) where
   operator-alike Orelse v m f g h = decided-alike true (truth_of v) m f g h
   operator-alike op v m f g h = then-alike m (f m) (g (κ.shift m)) _ _ h (λ w k u. ends-alike (operate op v w) k)
 
-  call-alike : (prefix : Option Name) (o : Option (Outcome Value)) (m : ℕ) (f g : ℕ → Run Value) → Alike Value m (f m) (g (κ.shift m)) → Alike Value m (run_call prefix o f m) (run_call prefix o g (κ.shift m))
-  call-alike prefix (Some outcome) m f g h = ends-alike outcome m
-  call-alike None None m f g h = h
-  call-alike (Some prefix) None m f g h = wrong-alike m
+  call-alike : (unbound : Outcome Value) (prefix : Option Name) (o : Option (Outcome Value)) (m : ℕ) (f g : ℕ → Run Value) → Alike Value m (f m) (g (κ.shift m)) → Alike Value m (run_call unbound prefix o f m) (run_call unbound prefix o g (κ.shift m))
+  call-alike unbound prefix (Some outcome) m f g h = ends-alike outcome m
+  call-alike unbound None None m f g h = h
+  call-alike unbound (Some prefix) None m f g h = ends-alike unbound m
 
   -- ways of applying that agree up to n steps, where expressions that run alike pass as tests alike
-  module _ (records : List RecDefKind) (arity : Value → ℕ) (p q : Applies) (n : ℕ)
+  module _ (unbound : Outcome Value) (records : List RecDefKind) (arity : Value → ℕ) (p q : Applies) (n : ℕ)
       (agree : (f : Value) (args : List Value) (m : ℕ) → m ≤ n → Alike Value m (p f args m) (q f args (κ.shift m)))
-      (tests : (t : ExprKind) → Like n (run_kind records arity p t) (run_kind records arity q t) → (environment : Environment) → ((run_kind records arity p t).run 0 environment 0).outcome ≡ ((run_kind records arity q t).run 0 environment 0).outcome) where
+      (tests : (t : ExprKind) → Like n (run_kind unbound records arity p t) (run_kind unbound records arity q t) → (environment : Environment) → ((run_kind unbound records arity p t).run 0 environment 0).outcome ≡ ((run_kind unbound records arity q t).run 0 environment 0).outcome) where
     abbrev IsExprAlike : ExprKind → Type 0
-    IsExprAlike t = Like n (run_kind records arity p t) (run_kind records arity q t)
+    IsExprAlike t = Like n (run_kind unbound records arity p t) (run_kind unbound records arity q t)
 
     abbrev IsItemAlike : ItemKind → Type 0
-    IsItemAlike t = LikePart (Value × Environment) n (item_kind records arity p t) (item_kind records arity q t)
+    IsItemAlike t = LikePart (Value × Environment) n (item_kind unbound records arity p t) (item_kind unbound records arity q t)
 
     abbrev IsQualifierAlike : QualifierKind → Type 0
-    IsQualifierAlike t = LikePart (List Environment) n (qualifier_kind records arity p t) (qualifier_kind records arity q t)
+    IsQualifierAlike t = LikePart (List Environment) n (qualifier_kind unbound records arity p t) (qualifier_kind unbound records arity q t)
 
     abbrev IsAssocAlike : AssocKind → Type 0
-    IsAssocAlike t = LikePart Association n (assoc_kind records arity p t) (assoc_kind records arity q t)
+    IsAssocAlike t = LikePart Association n (assoc_kind unbound records arity p t) (assoc_kind unbound records arity q t)
 
     abbrev IsCatchAlike : CatchKind → Type 0
-    IsCatchAlike t = LikeChoice n (caught_kind records arity p t) (caught_kind records arity q t)
+    IsCatchAlike t = LikeChoice n (caught_kind unbound records arity p t) (caught_kind unbound records arity q t)
 
     abbrev IsClauseAlike : ClauseKind → Type 0
-    IsClauseAlike t = LikeChoice n (choice_kind records arity p t) (choice_kind records arity q t)
+    IsClauseAlike t = LikeChoice n (choice_kind unbound records arity p t) (choice_kind unbound records arity q t)
 
     abbrev ExprAlike : Type 0
     ExprAlike = (t : ExprKind) × IsExprAlike t
@@ -304,61 +304,61 @@ module _ (κ : RunRelation) where
     abbrev tree : {A : Type 0} {B : A → Type 0} → Node ((t : A) × B t) → Node A
     tree t = record { place = t.place; marks = t.marks; kind = t.kind.0 }
 
-    part-like : (t : Node ExprAlike) → LikePart Value n (part (record { place = t.place; marks = t.marks; kind = with_expr records arity p t.kind.0 })) (part (record { place = t.place; marks = t.marks; kind = with_expr records arity q t.kind.0 }))
+    part-like : (t : Node ExprAlike) → LikePart Value n (part (record { place = t.place; marks = t.marks; kind = with_expr unbound records arity p t.kind.0 })) (part (record { place = t.place; marks = t.marks; kind = with_expr unbound records arity q t.kind.0 }))
     part-like t = record { funs = λ j. with_itself (is_fun_layer (out-ExprKind t.kind.0)) (tree t) (t.kind.1.inner j); runs = t.kind.1.runs }
 
-    parts-like : (ts : List (Node ExprAlike)) → all_like n (parts (S.former-ExprKind-Tuple-0.map ExprKind (ExprKind × Does) (with_expr records arity p) (S.former-ExprKind-Tuple-0.map ExprAlike ExprKind (λ t. t.0) ts))) (parts (S.former-ExprKind-Tuple-0.map ExprKind (ExprKind × Does) (with_expr records arity q) (S.former-ExprKind-Tuple-0.map ExprAlike ExprKind (λ t. t.0) ts)))
+    parts-like : (ts : List (Node ExprAlike)) → all_like n (parts (S.former-ExprKind-Tuple-0.map ExprKind (ExprKind × Does) (with_expr unbound records arity p) (S.former-ExprKind-Tuple-0.map ExprAlike ExprKind (λ t. t.0) ts))) (parts (S.former-ExprKind-Tuple-0.map ExprKind (ExprKind × Does) (with_expr unbound records arity q) (S.former-ExprKind-Tuple-0.map ExprAlike ExprKind (λ t. t.0) ts)))
     parts-like [] = tt
     parts-like (t ∷ ts) = (part-like t, parts-like ts)
 
-    items-like : (ts : List (Node ItemAlike)) → all_like n (all_of (S.former-ExprKind-Begin-0.map ItemKind (ItemKind × Part (Value × Environment)) (with_item records arity p) (S.former-ExprKind-Begin-0.map ItemAlike ItemKind (λ t. t.0) ts))) (all_of (S.former-ExprKind-Begin-0.map ItemKind (ItemKind × Part (Value × Environment)) (with_item records arity q) (S.former-ExprKind-Begin-0.map ItemAlike ItemKind (λ t. t.0) ts)))
+    items-like : (ts : List (Node ItemAlike)) → all_like n (all_of (S.former-ExprKind-Begin-0.map ItemKind (ItemKind × Part (Value × Environment)) (with_item unbound records arity p) (S.former-ExprKind-Begin-0.map ItemAlike ItemKind (λ t. t.0) ts))) (all_of (S.former-ExprKind-Begin-0.map ItemKind (ItemKind × Part (Value × Environment)) (with_item unbound records arity q) (S.former-ExprKind-Begin-0.map ItemAlike ItemKind (λ t. t.0) ts)))
     items-like [] = tt
     items-like (t ∷ ts) = (t.kind.1, items-like ts)
 
-    qualifiers-like : (ts : List (Node QualifierAlike)) → all_like n (all_of (S.former-ExprKind-Comp-1.map QualifierKind (QualifierKind × Part (List Environment)) (with_qualifier records arity p) (S.former-ExprKind-Comp-1.map QualifierAlike QualifierKind (λ t. t.0) ts))) (all_of (S.former-ExprKind-Comp-1.map QualifierKind (QualifierKind × Part (List Environment)) (with_qualifier records arity q) (S.former-ExprKind-Comp-1.map QualifierAlike QualifierKind (λ t. t.0) ts)))
+    qualifiers-like : (ts : List (Node QualifierAlike)) → all_like n (all_of (S.former-ExprKind-Comp-1.map QualifierKind (QualifierKind × Part (List Environment)) (with_qualifier unbound records arity p) (S.former-ExprKind-Comp-1.map QualifierAlike QualifierKind (λ t. t.0) ts))) (all_of (S.former-ExprKind-Comp-1.map QualifierKind (QualifierKind × Part (List Environment)) (with_qualifier unbound records arity q) (S.former-ExprKind-Comp-1.map QualifierAlike QualifierKind (λ t. t.0) ts)))
     qualifiers-like [] = tt
     qualifiers-like (t ∷ ts) = (t.kind.1, qualifiers-like ts)
 
-    assocs-like : (ts : List (Node AssocAlike)) → all_like n (all_of (S.former-ExprKind-MapNew-0.map AssocKind (AssocKind × Part Association) (with_assoc records arity p) (S.former-ExprKind-MapNew-0.map AssocAlike AssocKind (λ t. t.0) ts))) (all_of (S.former-ExprKind-MapNew-0.map AssocKind (AssocKind × Part Association) (with_assoc records arity q) (S.former-ExprKind-MapNew-0.map AssocAlike AssocKind (λ t. t.0) ts)))
+    assocs-like : (ts : List (Node AssocAlike)) → all_like n (all_of (S.former-ExprKind-MapNew-0.map AssocKind (AssocKind × Part Association) (with_assoc unbound records arity p) (S.former-ExprKind-MapNew-0.map AssocAlike AssocKind (λ t. t.0) ts))) (all_of (S.former-ExprKind-MapNew-0.map AssocKind (AssocKind × Part Association) (with_assoc unbound records arity q) (S.former-ExprKind-MapNew-0.map AssocAlike AssocKind (λ t. t.0) ts)))
     assocs-like [] = tt
     assocs-like (t ∷ ts) = (t.kind.1, assocs-like ts)
 
-    choices-like : (ts : List (Node ClauseAlike)) → all_choices n (all_of (S.former-ExprKind-Case-1.map ClauseKind (ClauseKind × Choice) (with_choice records arity p) (S.former-ExprKind-Case-1.map ClauseAlike ClauseKind (λ t. t.0) ts))) (all_of (S.former-ExprKind-Case-1.map ClauseKind (ClauseKind × Choice) (with_choice records arity q) (S.former-ExprKind-Case-1.map ClauseAlike ClauseKind (λ t. t.0) ts)))
+    choices-like : (ts : List (Node ClauseAlike)) → all_choices n (all_of (S.former-ExprKind-Case-1.map ClauseKind (ClauseKind × Choice) (with_choice unbound records arity p) (S.former-ExprKind-Case-1.map ClauseAlike ClauseKind (λ t. t.0) ts))) (all_of (S.former-ExprKind-Case-1.map ClauseKind (ClauseKind × Choice) (with_choice unbound records arity q) (S.former-ExprKind-Case-1.map ClauseAlike ClauseKind (λ t. t.0) ts)))
     choices-like [] = tt
     choices-like (t ∷ ts) = (t.kind.1, choices-like ts)
 
-    catches-like : (ts : List (Node CatchAlike)) → all_choices n (all_of (S.former-ExprKind-Try-2.map CatchKind (CatchKind × Choice) (with_caught records arity p) (S.former-ExprKind-Try-2.map CatchAlike CatchKind (λ t. t.0) ts))) (all_of (S.former-ExprKind-Try-2.map CatchKind (CatchKind × Choice) (with_caught records arity q) (S.former-ExprKind-Try-2.map CatchAlike CatchKind (λ t. t.0) ts)))
+    catches-like : (ts : List (Node CatchAlike)) → all_choices n (all_of (S.former-ExprKind-Try-2.map CatchKind (CatchKind × Choice) (with_caught unbound records arity p) (S.former-ExprKind-Try-2.map CatchAlike CatchKind (λ t. t.0) ts))) (all_of (S.former-ExprKind-Try-2.map CatchKind (CatchKind × Choice) (with_caught unbound records arity q) (S.former-ExprKind-Try-2.map CatchAlike CatchKind (λ t. t.0) ts)))
     catches-like [] = tt
     catches-like (t ∷ ts) = (t.kind.1, catches-like ts)
 
-    fields-like : (ts : List (Node (Name × Node ExprAlike))) → all_like n (field_parts (S.former-ExprKind-RecNew-2.map ExprKind (ExprKind × Does) (with_expr records arity p) (S.former-ExprKind-RecNew-2.map ExprAlike ExprKind (λ t. t.0) ts))) (field_parts (S.former-ExprKind-RecNew-2.map ExprKind (ExprKind × Does) (with_expr records arity q) (S.former-ExprKind-RecNew-2.map ExprAlike ExprKind (λ t. t.0) ts)))
+    fields-like : (ts : List (Node (Name × Node ExprAlike))) → all_like n (field_parts (S.former-ExprKind-RecNew-2.map ExprKind (ExprKind × Does) (with_expr unbound records arity p) (S.former-ExprKind-RecNew-2.map ExprAlike ExprKind (λ t. t.0) ts))) (field_parts (S.former-ExprKind-RecNew-2.map ExprKind (ExprKind × Does) (with_expr unbound records arity q) (S.former-ExprKind-RecNew-2.map ExprAlike ExprKind (λ t. t.0) ts)))
     fields-like [] = tt
     fields-like (t ∷ ts) = (part-like t.kind.1, fields-like ts)
 
-    names-same : (ts : List (Node (Name × Node ExprAlike))) → names_of (S.former-ExprKind-RecNew-2.map ExprKind (ExprKind × Does) (with_expr records arity p) (S.former-ExprKind-RecNew-2.map ExprAlike ExprKind (λ t. t.0) ts)) ≡ names_of (S.former-ExprKind-RecNew-2.map ExprKind (ExprKind × Does) (with_expr records arity q) (S.former-ExprKind-RecNew-2.map ExprAlike ExprKind (λ t. t.0) ts))
+    names-same : (ts : List (Node (Name × Node ExprAlike))) → names_of (S.former-ExprKind-RecNew-2.map ExprKind (ExprKind × Does) (with_expr unbound records arity p) (S.former-ExprKind-RecNew-2.map ExprAlike ExprKind (λ t. t.0) ts)) ≡ names_of (S.former-ExprKind-RecNew-2.map ExprKind (ExprKind × Does) (with_expr unbound records arity q) (S.former-ExprKind-RecNew-2.map ExprAlike ExprKind (λ t. t.0) ts))
     names-same [] = refl
     names-same (t ∷ ts) = ap (λ ns. t.kind.0 ∷ ns) (names-same ts)
 
-    tail-like : (o : Option (Node ExprAlike)) → LikePart Value n (tail_part (S.former-ExprKind-Cells-1.map ExprKind (ExprKind × Does) (with_expr records arity p) (S.former-ExprKind-Cells-1.map ExprAlike ExprKind (λ t. t.0) o))) (tail_part (S.former-ExprKind-Cells-1.map ExprKind (ExprKind × Does) (with_expr records arity q) (S.former-ExprKind-Cells-1.map ExprAlike ExprKind (λ t. t.0) o)))
+    tail-like : (o : Option (Node ExprAlike)) → LikePart Value n (tail_part (S.former-ExprKind-Cells-1.map ExprKind (ExprKind × Does) (with_expr unbound records arity p) (S.former-ExprKind-Cells-1.map ExprAlike ExprKind (λ t. t.0) o))) (tail_part (S.former-ExprKind-Cells-1.map ExprKind (ExprKind × Does) (with_expr unbound records arity q) (S.former-ExprKind-Cells-1.map ExprAlike ExprKind (λ t. t.0) o)))
     tail-like None = record { funs = refl; runs = λ b c e environment m l. gives-alike nil m }
     tail-like (Some t) = part-like t
 
-    after-like : (o : Option (List (Node ItemAlike))) → optional_like n (optional (S.former-ExprKind-Try-3.map ItemKind (ItemKind × Part (Value × Environment)) (with_item records arity p) (S.former-ExprKind-Try-3.map ItemAlike ItemKind (λ t. t.0) o))) (optional (S.former-ExprKind-Try-3.map ItemKind (ItemKind × Part (Value × Environment)) (with_item records arity q) (S.former-ExprKind-Try-3.map ItemAlike ItemKind (λ t. t.0) o)))
+    after-like : (o : Option (List (Node ItemAlike))) → optional_like n (optional (S.former-ExprKind-Try-3.map ItemKind (ItemKind × Part (Value × Environment)) (with_item unbound records arity p) (S.former-ExprKind-Try-3.map ItemAlike ItemKind (λ t. t.0) o))) (optional (S.former-ExprKind-Try-3.map ItemKind (ItemKind × Part (Value × Environment)) (with_item unbound records arity q) (S.former-ExprKind-Try-3.map ItemAlike ItemKind (λ t. t.0) o)))
     after-like None = tt
     after-like (Some ts) = items-like ts
 
-    test-same : (environment : Environment) (t : Node ExprAlike) → test_holds environment (record { place = t.place; marks = t.marks; kind = with_expr records arity p t.kind.0 }) ≡ test_holds environment (record { place = t.place; marks = t.marks; kind = with_expr records arity q t.kind.0 })
+    test-same : (environment : Environment) (t : Node ExprAlike) → test_holds environment (record { place = t.place; marks = t.marks; kind = with_expr unbound records arity p t.kind.0 }) ≡ test_holds environment (record { place = t.place; marks = t.marks; kind = with_expr unbound records arity q t.kind.0 })
     test-same environment t = ap is_true (tests t.kind.0 t.kind.1 environment)
 
-    tests-same : (environment : Environment) (ts : List (Node ExprAlike)) → list_all (test_holds environment) (S.former-ExprKind-Tuple-0.map ExprKind (ExprKind × Does) (with_expr records arity p) (S.former-ExprKind-Tuple-0.map ExprAlike ExprKind (λ t. t.0) ts)) ≡ list_all (test_holds environment) (S.former-ExprKind-Tuple-0.map ExprKind (ExprKind × Does) (with_expr records arity q) (S.former-ExprKind-Tuple-0.map ExprAlike ExprKind (λ t. t.0) ts))
+    tests-same : (environment : Environment) (ts : List (Node ExprAlike)) → list_all (test_holds environment) (S.former-ExprKind-Tuple-0.map ExprKind (ExprKind × Does) (with_expr unbound records arity p) (S.former-ExprKind-Tuple-0.map ExprAlike ExprKind (λ t. t.0) ts)) ≡ list_all (test_holds environment) (S.former-ExprKind-Tuple-0.map ExprKind (ExprKind × Does) (with_expr unbound records arity q) (S.former-ExprKind-Tuple-0.map ExprAlike ExprKind (λ t. t.0) ts))
     tests-same environment [] = refl
     tests-same environment (t ∷ ts) = λ j. test-same environment t j && tests-same environment ts j
 
-    alternatives-same : (environment : Environment) (ts : List (List (Node ExprAlike))) → list_any (λ es. list_all (test_holds environment) es) (S.former-ClauseKind-guard-at-8.map ExprKind (ExprKind × Does) (with_expr records arity p) (S.former-ClauseKind-guard-at-8.map ExprAlike ExprKind (λ t. t.0) ts)) ≡ list_any (λ es. list_all (test_holds environment) es) (S.former-ClauseKind-guard-at-8.map ExprKind (ExprKind × Does) (with_expr records arity q) (S.former-ClauseKind-guard-at-8.map ExprAlike ExprKind (λ t. t.0) ts))
+    alternatives-same : (environment : Environment) (ts : List (List (Node ExprAlike))) → list_any (λ es. list_all (test_holds environment) es) (S.former-ClauseKind-guard-at-8.map ExprKind (ExprKind × Does) (with_expr unbound records arity p) (S.former-ClauseKind-guard-at-8.map ExprAlike ExprKind (λ t. t.0) ts)) ≡ list_any (λ es. list_all (test_holds environment) es) (S.former-ClauseKind-guard-at-8.map ExprKind (ExprKind × Does) (with_expr unbound records arity q) (S.former-ClauseKind-guard-at-8.map ExprAlike ExprKind (λ t. t.0) ts))
     alternatives-same environment [] = refl
     alternatives-same environment (t ∷ ts) = λ j. tests-same environment t j || alternatives-same environment ts j
 
-    guard-same : (g : Option (Node (List (List (Node ExprAlike))))) (environment : Environment) → guard_holds (S.former-ClauseKind-guard.map ExprKind (ExprKind × Does) (with_expr records arity p) (S.former-ClauseKind-guard.map ExprAlike ExprKind (λ t. t.0) g)) environment ≡ guard_holds (S.former-ClauseKind-guard.map ExprKind (ExprKind × Does) (with_expr records arity q) (S.former-ClauseKind-guard.map ExprAlike ExprKind (λ t. t.0) g)) environment
+    guard-same : (g : Option (Node (List (List (Node ExprAlike))))) (environment : Environment) → guard_holds (S.former-ClauseKind-guard.map ExprKind (ExprKind × Does) (with_expr unbound records arity p) (S.former-ClauseKind-guard.map ExprAlike ExprKind (λ t. t.0) g)) environment ≡ guard_holds (S.former-ClauseKind-guard.map ExprKind (ExprKind × Does) (with_expr unbound records arity q) (S.former-ClauseKind-guard.map ExprAlike ExprKind (λ t. t.0) g)) environment
     guard-same None environment = refl
     guard-same (Some g) environment = alternatives-same environment g.kind
 
@@ -370,7 +370,7 @@ module _ (κ : RunRelation) where
     literal-like : (v : Value) → Like n (literal v) (literal v)
     literal-like v = record { inner = refl; runs = λ b c e environment m l. gives-alike v m; enters = no_enter }
 
-    layer-like : (y : E.ExprKind-F ExprAlike ItemAlike QualifierAlike AssocAlike CatchAlike ClauseAlike) → Like n (run_layer records arity p (expr_layer records arity p (plain_expr y))) (run_layer records arity q (expr_layer records arity q (plain_expr y)))
+    layer-like : (y : E.ExprKind-F ExprAlike ItemAlike QualifierAlike AssocAlike CatchAlike ClauseAlike) → Like n (run_layer unbound records arity p (expr_layer unbound records arity p (plain_expr y))) (run_layer unbound records arity q (expr_layer unbound records arity q (plain_expr y)))
     layer-like (E.Atom a) = literal-like _
     layer-like (E.Int z) = literal-like _
     layer-like (E.Char z) = literal-like _
@@ -378,7 +378,7 @@ module _ (κ : RunRelation) where
     layer-like (E.FunName name z) = literal-like _
     layer-like (E.Var x) = record {
       inner = refl;
-      runs = λ b c e environment m l. found-alike (variable_value environment x) m;
+      runs = λ b c e environment m l. ends-alike (meaning unbound (variable_value environment x)) m;
       enters = no_enter;
     }
     layer-like (E.Paren x) = record {
@@ -413,7 +413,7 @@ module _ (κ : RunRelation) where
     }
     layer-like (E.Call prefix name es) = record {
       inner = funs_in-same n _ _ (parts-like es);
-      runs = λ b c e environment m l. then-alike m _ _ _ _ (run_all-like n _ _ (parts-like es) b c e environment m l) (λ vs k u. call-alike prefix (built_in arity name vs) k (λ rest. p (named_fun name (length vs)) vs rest) (λ rest. q (named_fun name (length vs)) vs rest) (agree (named_fun name (length vs)) vs k (le-trans u l)));
+      runs = λ b c e environment m l. then-alike m _ _ _ _ (run_all-like n _ _ (parts-like es) b c e environment m l) (λ vs k u. call-alike unbound prefix (built_in arity name vs) k (λ rest. p (named_fun name (length vs)) vs rest) (λ rest. q (named_fun name (length vs)) vs rest) (agree (named_fun name (length vs)) vs k (le-trans u l)));
       enters = no_enter;
     }
     layer-like (E.Apply x es) = record {
@@ -433,12 +433,12 @@ module _ (κ : RunRelation) where
     }
     layer-like (E.RecNew name tag fs) = record {
       inner = funs_in-same n _ _ (fields-like fs);
-      runs = λ b c e environment m l. then-alike m _ _ _ _ (run_all-like n _ _ (fields-like fs) b c e environment m l) (λ vs k u. subst (λ ns. Alike Value k (gives_found (new_record (find_record records name) tag (names_of (S.former-ExprKind-RecNew-2.map ExprKind (ExprKind × Does) (with_expr records arity p) (S.former-ExprKind-RecNew-2.map ExprAlike ExprKind (λ t. t.0) fs))) vs) k) (gives_found (new_record (find_record records name) tag ns vs) (κ.shift k))) (names-same fs) (found-alike _ k));
+      runs = λ b c e environment m l. then-alike m _ _ _ _ (run_all-like n _ _ (fields-like fs) b c e environment m l) (λ vs k u. subst (λ ns. Alike Value k (gives_found (new_record (find_record records name) tag (names_of (S.former-ExprKind-RecNew-2.map ExprKind (ExprKind × Does) (with_expr unbound records arity p) (S.former-ExprKind-RecNew-2.map ExprAlike ExprKind (λ t. t.0) fs))) vs) k) (gives_found (new_record (find_record records name) tag ns vs) (κ.shift k))) (names-same fs) (found-alike _ k));
       enters = no_enter;
     }
     layer-like (E.RecChange x name tag fs) = record {
       inner = λ j. (part-like x).funs j ++ funs_in-same n _ _ (fields-like fs) j;
-      runs = λ b c e environment m l. then-alike m _ _ _ _ (x.kind.1.runs b c e environment m l) (λ v k u. then-alike k _ _ _ _ (run_all-like n _ _ (fields-like fs) _ _ (λ j. behind (e j) ((part-like x).funs j)) environment k (le-trans u l)) (λ vs i w. subst (λ ns. Alike Value i (gives_found (changed_record (find_record records name) tag v (names_of (S.former-ExprKind-RecNew-2.map ExprKind (ExprKind × Does) (with_expr records arity p) (S.former-ExprKind-RecNew-2.map ExprAlike ExprKind (λ t. t.0) fs))) vs) i) (gives_found (changed_record (find_record records name) tag v ns vs) (κ.shift i))) (names-same fs) (found-alike _ i)));
+      runs = λ b c e environment m l. then-alike m _ _ _ _ (x.kind.1.runs b c e environment m l) (λ v k u. then-alike k _ _ _ _ (run_all-like n _ _ (fields-like fs) _ _ (λ j. behind (e j) ((part-like x).funs j)) environment k (le-trans u l)) (λ vs i w. subst (λ ns. Alike Value i (gives_found (changed_record (find_record records name) tag v (names_of (S.former-ExprKind-RecNew-2.map ExprKind (ExprKind × Does) (with_expr unbound records arity p) (S.former-ExprKind-RecNew-2.map ExprAlike ExprKind (λ t. t.0) fs))) vs) i) (gives_found (changed_record (find_record records name) tag v ns vs) (κ.shift i))) (names-same fs) (found-alike _ i)));
       enters = no_enter;
     }
     layer-like (E.RecGet x name tag field) = record {
@@ -472,73 +472,73 @@ module _ (κ : RunRelation) where
       enters = no_enter;
     }
 
-    matched-alike : (o : Option Environment) (v : Value) (m : ℕ) → Alike (Value × Environment) m (matched records arity p o v m) (matched records arity q o v (κ.shift m))
+    matched-alike : (o : Option Environment) (v : Value) (m : ℕ) → Alike (Value × Environment) m (matched unbound records arity p o v m) (matched unbound records arity q o v (κ.shift m))
     matched-alike None v m = wrong-alike m
     matched-alike (Some environment) v m = gives-alike _ m
 
-    item_layer-like : (y : E.ItemKind-F ExprAlike ItemAlike QualifierAlike AssocAlike CatchAlike ClauseAlike) → LikePart (Value × Environment) n (run_item_layer records arity p (item_layer records arity p (plain_item y))) (run_item_layer records arity q (item_layer records arity q (plain_item y)))
+    item_layer-like : (y : E.ItemKind-F ExprAlike ItemAlike QualifierAlike AssocAlike CatchAlike ClauseAlike) → LikePart (Value × Environment) n (run_item_layer unbound records arity p (item_layer unbound records arity p (plain_item y))) (run_item_layer unbound records arity q (item_layer unbound records arity q (plain_item y)))
     item_layer-like (E.Value x) = record { funs = (part-like x).funs; runs = λ b c e environment m l. then-alike m _ _ _ _ (x.kind.1.runs b c e environment m l) (λ v k u. gives-alike _ k) }
     item_layer-like (E.Match pattern x) = record { funs = (part-like x).funs; runs = λ b c e environment m l. then-alike m _ _ _ _ (x.kind.1.runs b c e environment m l) (λ v k u. matched-alike _ v k) }
 
-    environments-same : (pattern : Node PatternKind) (vs : List Value) (environment : Environment) → environments_of records arity p pattern vs environment ≡ environments_of records arity q pattern vs environment
+    environments-same : (pattern : Node PatternKind) (vs : List Value) (environment : Environment) → environments_of unbound records arity p pattern vs environment ≡ environments_of unbound records arity q pattern vs environment
     environments-same pattern [] environment = refl
-    environments-same pattern (v ∷ vs) environment = ap (λ es. front records arity p (anew (match_pattern records pattern v no_bindings) environment) es) (environments-same pattern vs environment) ∙ front-same (anew (match_pattern records pattern v no_bindings) environment) (environments_of records arity q pattern vs environment)
+    environments-same pattern (v ∷ vs) environment = ap (λ es. front unbound records arity p (anew (match_pattern records pattern v no_bindings) environment) es) (environments-same pattern vs environment) ∙ front-same (anew (match_pattern records pattern v no_bindings) environment) (environments_of unbound records arity q pattern vs environment)
       where
-        front-same : (o : Option Environment) (es : List Environment) → front records arity p o es ≡ front records arity q o es
+        front-same : (o : Option Environment) (es : List Environment) → front unbound records arity p o es ≡ front unbound records arity q o es
         front-same None es = refl
         front-same (Some e) es = refl
 
-    generated-alike : (pattern : Node PatternKind) (o : Option (List Value)) (environment : Environment) (m : ℕ) → Alike (List Environment) m (generated records arity p pattern o environment m) (generated records arity q pattern o environment (κ.shift m))
+    generated-alike : (pattern : Node PatternKind) (o : Option (List Value)) (environment : Environment) (m : ℕ) → Alike (List Environment) m (generated unbound records arity p pattern o environment m) (generated unbound records arity q pattern o environment (κ.shift m))
     generated-alike pattern None environment m = wrong-alike m
     generated-alike pattern (Some vs) environment m = κ.at_end (List Environment) _ _ (ap came (environments-same pattern vs environment)) m
 
-    filter-alike : (b : Bool) (x : Node ExprAlike) → RunsAlike (List Environment) n (run_filter b (record { place = x.place; marks = x.marks; kind = with_expr records arity p x.kind.0 })) (run_filter b (record { place = x.place; marks = x.marks; kind = with_expr records arity q x.kind.0 }))
+    filter-alike : (b : Bool) (x : Node ExprAlike) → RunsAlike (List Environment) n (run_filter b (record { place = x.place; marks = x.marks; kind = with_expr unbound records arity p x.kind.0 })) (run_filter b (record { place = x.place; marks = x.marks; kind = with_expr unbound records arity q x.kind.0 }))
     filter-alike true x b c e environment m l = κ.at_end (List Environment) _ _ (ap (λ passes. came (passing passes environment)) (test-same environment x)) m
     filter-alike false x b c e environment m l = then-alike m _ _ _ _ (x.kind.1.runs b c e environment m l) (λ v k u. truth-alike _ environment k)
 
-    qualifier_layer-like : (y : E.QualifierKind-F ExprAlike ItemAlike QualifierAlike AssocAlike CatchAlike ClauseAlike) → LikePart (List Environment) n (run_qualifier_layer records arity p (qualifier_layer records arity p (plain_qualifier y))) (run_qualifier_layer records arity q (qualifier_layer records arity q (plain_qualifier y)))
+    qualifier_layer-like : (y : E.QualifierKind-F ExprAlike ItemAlike QualifierAlike AssocAlike CatchAlike ClauseAlike) → LikePart (List Environment) n (run_qualifier_layer unbound records arity p (qualifier_layer unbound records arity p (plain_qualifier y))) (run_qualifier_layer unbound records arity q (qualifier_layer unbound records arity q (plain_qualifier y)))
     qualifier_layer-like (E.Generator pattern x) = record { funs = (part-like x).funs; runs = λ b c e environment m l. then-alike m _ _ _ _ (x.kind.1.runs b c e environment m l) (λ v k u. generated-alike pattern _ environment k) }
     qualifier_layer-like (E.Filter x) = record { funs = (part-like x).funs; runs = filter-alike (is_none (misfit (tree x))) x }
 
-    assoc_layer-like : (y : E.AssocKind-F ExprAlike ItemAlike QualifierAlike AssocAlike CatchAlike ClauseAlike) → LikePart Association n (run_assoc_layer records arity p (assoc_layer records arity p (plain_assoc y))) (run_assoc_layer records arity q (assoc_layer records arity q (plain_assoc y)))
+    assoc_layer-like : (y : E.AssocKind-F ExprAlike ItemAlike QualifierAlike AssocAlike CatchAlike ClauseAlike) → LikePart Association n (run_assoc_layer unbound records arity p (assoc_layer unbound records arity p (plain_assoc y))) (run_assoc_layer unbound records arity q (assoc_layer unbound records arity q (plain_assoc y)))
     assoc_layer-like y = record {
       funs = λ j. (part-like y.key).funs j ++ (part-like y.value).funs j;
       runs = λ b c e environment m l. then-alike m _ _ _ _ (y.key.kind.1.runs b c e environment m l) (λ v k u. then-alike k _ _ _ _ (y.value.kind.1.runs _ _ (λ j. behind (e j) ((part-like y.key).funs j)) environment k (le-trans u l)) (λ w i t. gives-alike _ i));
     }
 
-    clause_layer-like : (y : E.ClauseKind-F ExprAlike ItemAlike QualifierAlike AssocAlike CatchAlike ClauseAlike) → LikeChoice n (run_clause_layer records arity p (choice_layer records arity p (plain_choice y))) (run_clause_layer records arity q (choice_layer records arity q (plain_choice y)))
+    clause_layer-like : (y : E.ClauseKind-F ExprAlike ItemAlike QualifierAlike AssocAlike CatchAlike ClauseAlike) → LikeChoice n (run_clause_layer unbound records arity p (choice_layer unbound records arity p (plain_choice y))) (run_clause_layer unbound records arity q (choice_layer unbound records arity q (plain_choice y)))
     clause_layer-like y = record { funs = funs_in-same n _ _ (items-like y.body); matches = λ vs environment. refl; allows = guard-same y.guard; runs = run_body-like n _ _ (items-like y.body) }
 
-    class-same : (o : Option (Node PatternKind)) (v : Value) (environment : Environment) → match_class records arity p o v environment ≡ match_class records arity q o v environment
+    class-same : (o : Option (Node PatternKind)) (v : Value) (environment : Environment) → match_class unbound records arity p o v environment ≡ match_class unbound records arity q o v environment
     class-same None v environment = refl
     class-same (Some pattern) v environment = refl
 
-    caught-same : (o : Option (Node PatternKind)) (c d : Choice) → LikeChoice n c d → (vs : List Value) (environment : Environment) → match_caught records arity p o c vs environment ≡ match_caught records arity q o d vs environment
+    caught-same : (o : Option (Node PatternKind)) (c d : Choice) → LikeChoice n c d → (vs : List Value) (environment : Environment) → match_caught unbound records arity p o c vs environment ≡ match_caught unbound records arity q o d vs environment
     caught-same o c d h [] environment = refl
     caught-same o c d h (v ∷ vs) environment = λ j. match_next (class-same o v environment j) (λ own. h.matches vs own j)
 
-    catch_layer-like : (y : E.CatchKind-F ExprAlike ItemAlike QualifierAlike AssocAlike CatchAlike ClauseAlike) → LikeChoice n (run_catch_layer records arity p (caught_layer records arity p (plain_caught y))) (run_catch_layer records arity q (caught_layer records arity q (plain_caught y)))
+    catch_layer-like : (y : E.CatchKind-F ExprAlike ItemAlike QualifierAlike AssocAlike CatchAlike ClauseAlike) → LikeChoice n (run_catch_layer unbound records arity p (caught_layer unbound records arity p (plain_caught y))) (run_catch_layer unbound records arity q (caught_layer unbound records arity q (plain_caught y)))
     catch_layer-like y = record { funs = y.clause.kind.1.funs; matches = caught-same y.class _ _ y.clause.kind.1; allows = y.clause.kind.1.allows; runs = y.clause.kind.1.runs }
 
     -- ---- each kind of node
 
     roll_expr-like : (x : Trees E.ExprKind-F) (y : E.ExprKind-F ExprAlike ItemAlike QualifierAlike AssocAlike CatchAlike ClauseAlike) → plain_expr y ≡ x → IsExprAlike (roll-ExprKind x)
-    roll_expr-like x y e = subst (λ z. IsExprAlike (roll-ExprKind z)) e (subst (λ X. X) (λ j. Like n (sym (expr-rolls records arity p (plain_expr y)) j) (sym (expr-rolls records arity q (plain_expr y)) j)) (layer-like y))
+    roll_expr-like x y e = subst (λ z. IsExprAlike (roll-ExprKind z)) e (subst (λ X. X) (λ j. Like n (sym (expr-rolls unbound records arity p (plain_expr y)) j) (sym (expr-rolls unbound records arity q (plain_expr y)) j)) (layer-like y))
 
     roll_item-like : (x : Trees E.ItemKind-F) (y : E.ItemKind-F ExprAlike ItemAlike QualifierAlike AssocAlike CatchAlike ClauseAlike) → plain_item y ≡ x → IsItemAlike (roll-ItemKind x)
-    roll_item-like x y e = subst (λ z. IsItemAlike (roll-ItemKind z)) e (subst (λ X. X) (λ j. LikePart (Value × Environment) n (sym (item-rolls records arity p (plain_item y)) j) (sym (item-rolls records arity q (plain_item y)) j)) (item_layer-like y))
+    roll_item-like x y e = subst (λ z. IsItemAlike (roll-ItemKind z)) e (subst (λ X. X) (λ j. LikePart (Value × Environment) n (sym (item-rolls unbound records arity p (plain_item y)) j) (sym (item-rolls unbound records arity q (plain_item y)) j)) (item_layer-like y))
 
     roll_qualifier-like : (x : Trees E.QualifierKind-F) (y : E.QualifierKind-F ExprAlike ItemAlike QualifierAlike AssocAlike CatchAlike ClauseAlike) → plain_qualifier y ≡ x → IsQualifierAlike (roll-QualifierKind x)
-    roll_qualifier-like x y e = subst (λ z. IsQualifierAlike (roll-QualifierKind z)) e (subst (λ X. X) (λ j. LikePart (List Environment) n (sym (qualifier-rolls records arity p (plain_qualifier y)) j) (sym (qualifier-rolls records arity q (plain_qualifier y)) j)) (qualifier_layer-like y))
+    roll_qualifier-like x y e = subst (λ z. IsQualifierAlike (roll-QualifierKind z)) e (subst (λ X. X) (λ j. LikePart (List Environment) n (sym (qualifier-rolls unbound records arity p (plain_qualifier y)) j) (sym (qualifier-rolls unbound records arity q (plain_qualifier y)) j)) (qualifier_layer-like y))
 
     roll_assoc-like : (x : Trees E.AssocKind-F) (y : E.AssocKind-F ExprAlike ItemAlike QualifierAlike AssocAlike CatchAlike ClauseAlike) → plain_assoc y ≡ x → IsAssocAlike (roll-AssocKind x)
-    roll_assoc-like x y e = subst (λ z. IsAssocAlike (roll-AssocKind z)) e (subst (λ X. X) (λ j. LikePart Association n (sym (assoc-rolls records arity p (plain_assoc y)) j) (sym (assoc-rolls records arity q (plain_assoc y)) j)) (assoc_layer-like y))
+    roll_assoc-like x y e = subst (λ z. IsAssocAlike (roll-AssocKind z)) e (subst (λ X. X) (λ j. LikePart Association n (sym (assoc-rolls unbound records arity p (plain_assoc y)) j) (sym (assoc-rolls unbound records arity q (plain_assoc y)) j)) (assoc_layer-like y))
 
     roll_caught-like : (x : Trees E.CatchKind-F) (y : E.CatchKind-F ExprAlike ItemAlike QualifierAlike AssocAlike CatchAlike ClauseAlike) → plain_caught y ≡ x → IsCatchAlike (roll-CatchKind x)
-    roll_caught-like x y e = subst (λ z. IsCatchAlike (roll-CatchKind z)) e (subst (λ X. X) (λ j. LikeChoice n (sym (caught-rolls records arity p (plain_caught y)) j) (sym (caught-rolls records arity q (plain_caught y)) j)) (catch_layer-like y))
+    roll_caught-like x y e = subst (λ z. IsCatchAlike (roll-CatchKind z)) e (subst (λ X. X) (λ j. LikeChoice n (sym (caught-rolls unbound records arity p (plain_caught y)) j) (sym (caught-rolls unbound records arity q (plain_caught y)) j)) (catch_layer-like y))
 
     roll_choice-like : (x : Trees E.ClauseKind-F) (y : E.ClauseKind-F ExprAlike ItemAlike QualifierAlike AssocAlike CatchAlike ClauseAlike) → plain_choice y ≡ x → IsClauseAlike (roll-ClauseKind x)
-    roll_choice-like x y e = subst (λ z. IsClauseAlike (roll-ClauseKind z)) e (subst (λ X. X) (λ j. LikeChoice n (sym (choice-rolls records arity p (plain_choice y)) j) (sym (choice-rolls records arity q (plain_choice y)) j)) (clause_layer-like y))
+    roll_choice-like x y e = subst (λ z. IsClauseAlike (roll-ClauseKind z)) e (subst (λ X. X) (λ j. LikeChoice n (sym (choice-rolls unbound records arity p (plain_choice y)) j) (sym (choice-rolls unbound records arity q (plain_choice y)) j)) (clause_layer-like y))
 
     pub kind-like : (t : ExprKind) → IsExprAlike t
     kind-like = ind-ExprKind IsExprAlike IsItemAlike IsQualifierAlike IsAssocAlike IsCatchAlike IsClauseAlike roll_expr-like roll_item-like roll_qualifier-like roll_assoc-like roll_caught-like roll_choice-like
@@ -546,24 +546,24 @@ module _ (κ : RunRelation) where
     pub clause-like : (t : ClauseKind) → IsClauseAlike t
     clause-like = ind-ClauseKind IsExprAlike IsItemAlike IsQualifierAlike IsAssocAlike IsCatchAlike IsClauseAlike roll_expr-like roll_item-like roll_qualifier-like roll_assoc-like roll_caught-like roll_choice-like
 
-    clauses-like : (cs : List (Node ClauseKind)) → all_choices n (choices records arity p cs) (choices records arity q cs)
+    clauses-like : (cs : List (Node ClauseKind)) → all_choices n (choices unbound records arity p cs) (choices unbound records arity q cs)
     clauses-like [] = tt
     clauses-like (c ∷ cs) = (clause-like c.kind, clauses-like cs)
 
-    pub function-like : (cs : List (Node ClauseKind)) (number : ℕ) (args : List Value) (m : ℕ) → m ≤ n → Alike Value m (run_clauses taken_anew (choices records arity p cs) number no_bindings args m) (run_clauses taken_anew (choices records arity q cs) number no_bindings args (κ.shift m))
+    pub function-like : (cs : List (Node ClauseKind)) (number : ℕ) (args : List Value) (m : ℕ) → m ≤ n → Alike Value m (run_clauses taken_anew (choices unbound records arity p cs) number no_bindings args m) (run_clauses taken_anew (choices unbound records arity q cs) number no_bindings args (κ.shift m))
     function-like cs number args m l = run_clauses-like n taken_anew (taken_anew-same n) _ _ (clauses-like cs) number number refl no_bindings args m l
 
   -- the same of the functions and the closures of a program
   module _ (code : Code) (p q : Applies) (n : ℕ)
       (agree : (f : Value) (args : List Value) (m : ℕ) → m ≤ n → Alike Value m (p f args m) (q f args (κ.shift m)))
-      (tests : (t : ExprKind) → Like n (run_kind code.records (arity_of code) p t) (run_kind code.records (arity_of code) q t) → (environment : Environment) → ((run_kind code.records (arity_of code) p t).run 0 environment 0).outcome ≡ ((run_kind code.records (arity_of code) q t).run 0 environment 0).outcome) where
+      (tests : (t : ExprKind) → Like n (run_kind code.unbound code.records (arity_of code) p t) (run_kind code.unbound code.records (arity_of code) q t) → (environment : Environment) → ((run_kind code.unbound code.records (arity_of code) p t).run 0 environment 0).outcome ≡ ((run_kind code.unbound code.records (arity_of code) q t).run 0 environment 0).outcome) where
     pub run_function-like : (o : Option (Function × ℕ)) (args : List Value) (m : ℕ) → m ≤ n → Alike Value m (run_function code p o args m) (run_function code q o args (κ.shift m))
-    run_function-like None args m l = wrong-alike m
-    run_function-like (Some f) args m l = function-like code.records (arity_of code) p q n agree tests f.0.clauses f.1 args m l
+    run_function-like None args m l = ends-alike code.unbound m
+    run_function-like (Some f) args m l = function-like code.unbound code.records (arity_of code) p q n agree tests f.0.clauses f.1 args m l
 
     pub run_closure-like : (o : Option (Node ExprKind)) (number : ℕ) (environment : Environment) (args : List Value) (m : ℕ) → m ≤ n → Alike Value m (run_closure code p o number environment args m) (run_closure code q o number environment args (κ.shift m))
     run_closure-like None number environment args m l = wrong-alike m
-    run_closure-like (Some e) number environment args m l = (kind-like code.records (arity_of code) p q n agree tests e.kind).enters (suc number) (suc number) refl environment args m l
+    run_closure-like (Some e) number environment args m l = (kind-like code.unbound code.records (arity_of code) p q n agree tests e.kind).enters (suc number) (suc number) refl environment args m l
 
   pub cond-like : (b : Bool) (m : ℕ) (r q : Run Value) → Alike Value m r q → Alike Value m (cond b r (goes_wrong m)) (cond b q (goes_wrong (κ.shift m)))
   cond-like true m r q h = h

@@ -67,7 +67,7 @@ listed-same c m r q l s = record { same = ap (λ t. with_calls (c ∷ []) t) s.s
 
 -- ways of applying that agree up to n steps enter a fun alike
 module _ (code : Code) (p q : Applies) (n : ℕ) (agree : (f : Value) (args : List Value) (m : ℕ) → m ≤ n → Same Value m (p f args m) (q f args m)) where
-  tests-same : (t : ExprKind) → Like sameness n (run_kind code.records (arity_of code) p t) (run_kind code.records (arity_of code) q t) → (environment : Environment) → ((run_kind code.records (arity_of code) p t).run 0 environment 0).outcome ≡ ((run_kind code.records (arity_of code) q t).run 0 environment 0).outcome
+  tests-same : (t : ExprKind) → Like sameness n (run_kind code.unbound code.records (arity_of code) p t) (run_kind code.unbound code.records (arity_of code) q t) → (environment : Environment) → ((run_kind code.unbound code.records (arity_of code) p t).run 0 environment 0).outcome ≡ ((run_kind code.unbound code.records (arity_of code) q t).run 0 environment 0).outcome
   tests-same t h environment = ap (λ r. r.outcome) (h.runs 0 0 refl environment 0 (omega arith)).same
 
   pub enter-same : (f : Value) (args : List Value) (m : ℕ) → m ≤ n → Step m (enter code p f args m) (enter code q f args m)

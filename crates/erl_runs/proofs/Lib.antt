@@ -9,7 +9,7 @@ pub mod Falls
 pub mod ReplacedTerms
 pub mod InstanceReads
 pub mod MembershipExamples
-pub mod MeaningLaws
+pub mod TypeTermLaws
 pub mod TypeExamples
 pub mod TextExamples
 pub mod Orders

@@ -13,7 +13,7 @@ use Rattle.erl_tree.specs.declared.pattern.PatternKind.TheVariants as Y
 use Rattle.erl_tree.specs.declared.pattern.PatternKind.TheOpen as P
 use Rattle.erl_tree.specs.declared.pattern.PatternKind.TheShapes as S
 use Rattle.erl_tree.specs.declared.form.RecDefKind.{RecDefKind}
-use Rattle.erl_runs.specs.Readable.{is_wildcard}
+use Rattle.erl_runs.specs.Names.{is_wildcard}
 use Rattle.erl_runs.specs.Value.{Value, integer, atom, nil, Row, no_entries, entry_and, Environment, no_bindings}
 use Rattle.erl_runs.specs.FiniteMaps.{pick, get}
 use Rattle.erl_runs.specs.Records.{string_value, find_record, or_else}

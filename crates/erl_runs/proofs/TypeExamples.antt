@@ -6,7 +6,7 @@ use Rattle.erl_tree.specs.SmallText.{place}
 use Rattle.erl_runs.specs.SmallTrees.{range_type_of, range_or_atom}
 use Rattle.erl_runs.specs.SmallPrograms.{range_or_atom_term}
 use Rattle.erl_runs.specs.Specs.{type_term}
-use Rattle.erl_runs.proofs.MeaningLaws.{type_kind_term-Atom, type_kind_term-Range, type_kind_term-Or}
+use Rattle.erl_runs.proofs.TypeTermLaws.{type_kind_term-Atom, type_kind_term-Range, type_kind_term-Or}
 
 pub union-formed : IsType range_or_atom
 union-formed = union (range_type_of (pos 1) (pos 3)) _ (place 5) (range _ _ (place 2) (integer_end (place 1) (pos 1)) (integer_end (place 4) (pos 3))) (one_type _ (atom_type (place 6) (codes "a")))

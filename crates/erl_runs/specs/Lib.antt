@@ -1,5 +1,5 @@
 pub mod Specs
-pub mod Readable
+pub mod Names
 pub mod Value
 pub mod FiniteMaps
 pub mod TermInstances

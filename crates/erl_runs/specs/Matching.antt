@@ -10,7 +10,7 @@ use Rattle.erl_tree.specs.declared.pattern.PatternKind.{PatternKind, fold-Patter
 use Rattle.erl_tree.specs.declared.pattern.PatternKind.TheOpen as P
 use Rattle.erl_tree.specs.declared.form.RecDefKind.{RecDefKind}
 use Rattle.erl_tree.specs.declared.form.RecFieldKind.{RecFieldKind}
-use Rattle.erl_runs.specs.Readable.{is_wildcard}
+use Rattle.erl_runs.specs.Names.{is_wildcard}
 use Rattle.erl_runs.specs.Value.{Value, integer, atom, nil, cons, tuple, map_of, items_of, Row, no_entries, entry_and, Environment}
 use Rattle.erl_runs.specs.FiniteMaps.{get, insert}
 use Rattle.erl_runs.specs.Order.{same_value}

@@ -59,6 +59,11 @@ go_on going steps next = still_going steps
 unfoldable pub then : {A B : Type 0} → Run A → (A → ℕ → Run B) → Run B
 then run next = with_calls run.calls (go_on run.outcome run.left next)
 
+-- what a name stands for, and else what an unbound one gives
+abbrev pub meaning : Outcome Value → Option Value → Outcome Value
+meaning unbound None = unbound
+meaning unbound (Some v) = came v
+
 -- what there is, and else it goes wrong
 abbrev pub gives_found : {A : Type 0} → Option A → ℕ → Run A
 gives_found None steps = goes_wrong steps
@@ -339,11 +344,11 @@ abbrev pub as_number : ℤ → ℕ
 as_number (pos n) = n
 as_number (negsuc n) = 0
 
--- a call of a built-in function ends at once; with a prefix there is no other
-abbrev pub run_call : Option Name → Option (Outcome Value) → (ℕ → Run Value) → ℕ → Run Value
-run_call prefix (Some outcome) other steps = ends outcome steps
-run_call None None other steps = other steps
-run_call (Some prefix) None other steps = goes_wrong steps
+-- a call of a built-in function ends at once; with a prefix there is no other, and what isn't built in is unbound
+abbrev pub run_call : Outcome Value → Option Name → Option (Outcome Value) → (ℕ → Run Value) → ℕ → Run Value
+run_call unbound prefix (Some outcome) other steps = ends outcome steps
+run_call unbound None None other steps = other steps
+run_call unbound (Some prefix) None other steps = ends unbound steps
 
 -- what stands in a node that is no fun expression
 abbrev pub plain : List (Node ExprKind) → (ℕ → Environment → ℕ → Run Value) → Does
@@ -362,14 +367,14 @@ tail_part (Some t) = part t
 abbrev pub Beside : ((A B C D F G : Type 0) → Type 0) → Type 0
 Beside layer = layer (ExprKind × Does) (ItemKind × Part (Value × Environment)) (QualifierKind × Part (List Environment)) (AssocKind × Part Association) (CatchKind × Choice) (ClauseKind × Choice)
 
-module _ (records : List RecDefKind) (arity : Value → ℕ) (apply : Applies) where
+module _ (unbound : Outcome Value) (records : List RecDefKind) (arity : Value → ℕ) (apply : Applies) where
   -- one level of an expression
   abbrev pub run_layer : Beside E.ExprKind-F → Does
   run_layer (E.Atom a) = literal (atom a)
   run_layer (E.Int n) = literal (integer n)
   run_layer (E.Char c) = literal (integer (pos c))
   run_layer (E.Str s) = literal (string_value s)
-  run_layer (E.Var x) = plain [] (λ number environment steps. gives_found (variable_value environment x) steps)
+  run_layer (E.Var x) = plain [] (λ number environment steps. ends (meaning unbound (variable_value environment x)) steps)
   run_layer (E.Paren e) = plain (part e).funs (part e).run
   run_layer (E.Tuple es) = plain (funs_in (parts es)) (λ number environment steps. then (run_all (parts es) number environment steps) (λ vs left. gives (tuple (values_of vs)) left))
   run_layer (E.Cells es tail) = plain (funs_in (parts es) ++ (tail_part tail).funs)
@@ -380,7 +385,7 @@ module _ (records : List RecDefKind) (arity : Value → ℕ) (apply : Applies) w
   run_layer (E.Binary op a b) = plain ((part a).funs ++ (part b).funs)
       (λ number environment steps. then ((part a).run number environment steps) (λ v left. run_operator op v (λ rest. (part b).run (behind number (part a).funs) environment rest) left))
   run_layer (E.Call prefix name args) = plain (funs_in (parts args))
-      (λ number environment steps. then (run_all (parts args) number environment steps) (λ vs left. run_call prefix (built_in arity name vs) (λ rest. apply (named_fun name (length vs)) vs rest) left))
+      (λ number environment steps. then (run_all (parts args) number environment steps) (λ vs left. run_call unbound prefix (built_in arity name vs) (λ rest. apply (named_fun name (length vs)) vs rest) left))
   run_layer (E.Apply f args) = plain ((part f).funs ++ funs_in (parts args))
       (λ number environment steps. then ((part f).run number environment steps) (λ v left. then (run_all (parts args) (behind number (part f).funs) environment left) (λ vs rest. apply v vs rest)))
   run_layer (E.MapNew assocs) = plain (funs_in (all_of assocs))
@@ -473,8 +478,9 @@ module _ (records : List RecDefKind) (arity : Value → ℕ) (apply : Applies) w
 
 -- ---- programs
 
--- what is run: the records of a module, its functions, each with the number of the first fun expression in it, and the fun expressions by their numbers
+-- what is run: the records of a module, its functions, each with the number of the first fun expression in it, and the fun expressions by their numbers; and what an unbound name gives: a variable without a value, a function that is absent, behind `erlang:` a built-in one. In the runs that the headline speaks of (`code_of`) it goes wrong; it is a parameter so that a law can say of which runs it makes no difference. A record that is absent, or a field, goes wrong in any case
 pub record Code : Type 0 where
+  pub unbound : Outcome Value
   pub records : List RecDefKind
   pub functions : List (Function × ℕ)
   pub funs : List (Node ExprKind)
@@ -485,7 +491,7 @@ applies_nothing v args steps = still_going steps
 
 -- the fun expressions in a function, in text order
 abbrev pub funs_in_function : Function → List (Node ExprKind)
-funs_in_function f = funs_in_choices (choices [] (λ v. 0) applies_nothing f.clauses)
+funs_in_function f = funs_in_choices (choices wrong [] (λ v. 0) applies_nothing f.clauses)
 
 -- the fun expressions in functions in turn
 abbrev pub funs_in_functions : List Function → List (Node ExprKind)
@@ -494,7 +500,7 @@ funs_in_functions (f ∷ fs) = funs_in_function f ++ funs_in_functions fs
 
 -- an outside fun expression, and the fun expressions inside it
 abbrev pub funs_with : Node ExprKind → List (Node ExprKind)
-funs_with e = e ∷ (run_kind [] (λ v. 0) applies_nothing e.kind).inner
+funs_with e = e ∷ (run_kind wrong [] (λ v. 0) applies_nothing e.kind).inner
 
 abbrev pub outside_funs : List (Node ExprKind) → List (Node ExprKind)
 outside_funs [] = []
@@ -505,9 +511,13 @@ abbrev pub numbered : List Function → ℕ → List (Function × ℕ)
 numbered [] number = []
 numbered (f ∷ fs) number = (f, number) ∷ numbered fs (behind number (funs_in_function f))
 
--- a module's code with outside fun expressions: the fun expressions in the module's functions come first, in text order, and then each outside one with those inside it. The defaults of records have none in the profile
+-- a module's code with outside fun expressions, in which an unbound name gives this: the fun expressions in the module's functions come first, in text order, and then each outside one with those inside it. The defaults of records have none in the profile
+abbrev pub code_with : Outcome Value → Module → List (Node ExprKind) → Code
+code_with unbound m outside = record { unbound = unbound; records = records_of m; functions = numbered (functions_of m) 0; funs = funs_in_functions (functions_of m) ++ outside_funs outside }
+
+-- the same, in which an unbound name goes wrong
 abbrev pub code_of : Module → List (Node ExprKind) → Code
-code_of m outside = record { records = records_of m; functions = numbered (functions_of m) 0; funs = funs_in_functions (functions_of m) ++ outside_funs outside }
+code_of m outside = code_with wrong m outside
 
 -- the first function with this name and arity
 abbrev pub find_numbered : List (Function × ℕ) → Name → ℕ → Option (Function × ℕ)
@@ -530,15 +540,15 @@ arity_of code (named_fun name arity) = arity
 arity_of code (closure number environment) = fun_arity (slice_get code.funs number)
 arity_of code _ = 0
 
--- a function that is absent goes wrong
+-- a function that is absent is unbound
 abbrev pub run_function : Code → Applies → Option (Function × ℕ) → List Value → ℕ → Run Value
-run_function code apply None args steps = goes_wrong steps
-run_function code apply (Some f) args steps = run_clauses taken_anew (choices code.records (arity_of code) apply f.0.clauses) f.1 no_bindings args steps
+run_function code apply None args steps = ends code.unbound steps
+run_function code apply (Some f) args steps = run_clauses taken_anew (choices code.unbound code.records (arity_of code) apply f.0.clauses) f.1 no_bindings args steps
 
 -- a fun expression that is absent goes wrong; the fun expressions inside it have the numbers behind its own
 abbrev pub run_closure : Code → Applies → Option (Node ExprKind) → ℕ → Environment → List Value → ℕ → Run Value
 run_closure code apply None number environment args steps = goes_wrong steps
-run_closure code apply (Some e) number environment args steps = (run_kind code.records (arity_of code) apply e.kind).enter (suc number) environment args steps
+run_closure code apply (Some e) number environment args steps = (run_kind code.unbound code.records (arity_of code) apply e.kind).enter (suc number) environment args steps
 
 -- A named fun lists its call, with its arguments and the steps left for it, and runs its function; with another number of arguments it goes wrong. A closure runs its fun expression in its environment. What is no fun goes wrong
 abbrev pub enter : Code → Applies → Value → List Value → ℕ → Run Value
@@ -559,7 +569,7 @@ apply code f args steps = apply_within code steps f args steps
 
 -- what an expression gives, whose first fun expression has this number
 abbrev pub run_expression : Code → Applies → Node ExprKind → ℕ → Environment → ℕ → Run Value
-run_expression code apply e number environment steps = (run_kind code.records (arity_of code) apply e.kind).run number environment steps
+run_expression code apply e number environment steps = (run_kind code.unbound code.records (arity_of code) apply e.kind).run number environment steps
 
 -- the code, with the specs of its functions and the definitions that they are written over
 abbrev pub program_of : Code → List FunSpec → List Def → Program

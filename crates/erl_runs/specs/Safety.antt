@@ -1,11 +1,10 @@
--- When a module and a text are safe: the claim that an accepted text keeps. It is said of every module, and runs (`Running`) are those of every form. Only when names are used rightly (`Readable`) and the terms of specs (`Specs`) are written for flat modules so far, and a text is accepted only where its module is flat.
+-- When a module is safe. It is said of every module, and runs (`Running`) are those of every form. Only the terms of specs (`Specs`) are written for flat modules so far.
 use Rattle.std.specs.Prelude.{◌≡◌, ℕ, List}
 use Rattle.std.specs.List.{Contains}
 use Rattle.type_terms.specs.declared.term.Def.{Def}
 use Rattle.type_terms.specs.declared.term.Term.{Term}
 use Rattle.type_terms.specs.declared.spec.Arrow.{Arrow}
 use Rattle.type_terms.specs.declared.spec.FunSpec.{FunSpec}
-use Rattle.type_terms.specs.Definitions.{given_definitions}
 use Rattle.type_terms.specs.Instances.{Instance, IsInstance}
 use Rattle.erl_tree.specs.declared.token.Node.{Node}
 use Rattle.erl_tree.specs.declared.expr.ExprKind.{ExprKind}
@@ -13,9 +12,6 @@ use Rattle.erl_tree.specs.declared.form.Function.{Function}
 use Rattle.erl_tree.specs.declared.form.Module.{Module}
 use Rattle.erl_tree.specs.Lists.{Among}
 use Rattle.erl_tree.specs.Functions.{functions_of, clauses_arity}
-use Rattle.erl_runs.specs.Specs.{specs_of}
-use Rattle.erl_runs.specs.Readable.{IsReadable}
-use Rattle.erl_grammar.specs.Texts.{SpellsModule}
 use Rattle.erl_runs.specs.Value.{Value, named_fun, Run, came}
 use Rattle.erl_runs.specs.Membership.{Program, InTerm, values_in, arrows_of, IsGoodRun}
 use Rattle.erl_runs.specs.Running.{apply, code_of, program_of}
@@ -36,11 +32,3 @@ IsSafe m specs defs =
     Among f (functions_of m) → Contains (arrows_of specs f.name (clauses_arity f.clauses)) arrow → IsInstance i →
     AlwaysIn (program_of (code_of m outside) specs defs) args arrow.params i →
     IsRightRun (program_of (code_of m outside) specs defs) (apply (code_of m outside) (named_fun f.name (clauses_arity f.clauses)) args steps) arrow.result i
-
--- the bytes spell exactly one module, in which names are used rightly (which is written for flat parts so far), and which is safe
-pub record IsSafeText (bytes : List ℕ) : Type 0 where
-  pub tree : Module
-  pub spelled : SpellsModule bytes tree
-  pub only : (other : Module) → SpellsModule bytes other → other ≡ tree
-  pub readable : IsReadable tree
-  pub safe : IsSafe tree (specs_of tree) given_definitions

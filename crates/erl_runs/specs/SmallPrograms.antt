@@ -85,4 +85,4 @@ run_with_call argument = record { outcome = came one; left = 0; calls = record {
 
 -- the code of the function `f(X)->f(X).` alone
 abbrev pub endless_code : Code
-endless_code = record { records = []; functions = (calls_itself, 0) ∷ []; funs = [] }
+endless_code = record { unbound = wrong; records = []; functions = (calls_itself, 0) ∷ []; funs = [] }

@@ -52,7 +52,7 @@ no_bindings = no_entries
 pub data Class : Type 0 where
   error exit throw : Class
 
--- how an evaluation ends: with a result, with an exception, wrong, or still going when the steps were used up. It goes wrong where no clause takes the values (of a function, a fun, a `case`, an `if` or an `of` part), a match in a body fails, an operand is outside its domain (that of an operator, a built-in function, a generator, a filter, or what reads or changes a map or a record), what is no fun or has another arity is applied, a map key is neither integer nor atom, or a name is unbound (a variable, a function, behind `erlang:` a built-in function, a record, or a field of it). It also goes wrong at what stands in no module of the profile: a closure without its fun expression, a default of a record without a value, an empty body
+-- how an evaluation ends: with a result, with an exception, wrong, or still going when the steps were used up. It goes wrong where no clause takes the values (of a function, a fun, a `case`, an `if` or an `of` part), a match in a body fails, an operand is outside its domain (that of an operator, a built-in function, a generator, a filter, or what reads or changes a map or a record), what is no fun or has another arity is applied, a map key is neither integer nor atom, a name is unbound (a variable, a function, behind `erlang:` a built-in function), or an expression has a record or a field that isn't declared. It also goes wrong at what stands in no module of the profile: a closure without its fun expression, a default of a record without a value, an empty body
 pub data Outcome (A : Type 0) : Type 0 where
   came : A → Outcome A
   raised : Class → Value → Outcome A

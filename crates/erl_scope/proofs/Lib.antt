@@ -1,12 +1,4 @@
-pub mod ForEach
-pub mod BuiltIns
-pub mod Variables
-pub mod Everywhere
-pub mod OneLevel
-pub mod Parts
-pub mod ScopedExpressions
-pub mod DefinedCalls
-pub mod SpecTerms
-pub mod KnownTypes
-pub mod FunctionNames
-pub mod Readability
+mod FaultOrder
+mod FirstOfTwo
+mod FirstFaults
+pub mod OneFirst

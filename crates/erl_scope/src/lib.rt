@@ -1,13 +1,11 @@
-//! Whether names are used rightly in a module: functions, specs, types, variables and calls.
+//! The names of a module: what is wrong with them, or else the numbers of its variables.
 #![tactic(auto)]
 
-mod built_ins;
-mod calls;
-mod forms;
-mod function_names;
-mod known_types;
-mod readable;
-mod scoping;
-mod text;
+pub mod examples;
+mod fault;
+mod first;
+pub mod laws;
+mod resolution;
 
-pub use readable::is_readable;
+pub use fault::ScopeFault;
+pub use resolution::resolve;

@@ -7,6 +7,11 @@ use Rattle.erl_grammar.specs.FormSpelling.{module_tokens}
 use Rattle.erl_grammar.specs.FormGrammar.{IsModule}
 use Rattle.erl_grammar.specs.Nesting.{nesting_limit}
 use Rattle.erl_grammar.specs.FormNesting.{IsModuleWithin, module_deep}
+use Rattle.scope_rules.specs.declared.fault.NameFault.TheVariants as N
+use Rattle.scope_rules.specs.declared.fault.PlacedFault.{PlacedFault}
+use Rattle.scope_rules.specs.ScopeFaults.{faults_of, HasRightNames, IsFirstFault as IsFirstNameFault}
+use Rattle.erl_scope.specs.FaultPlaces.{placed_fault}
+use Rattle.erl_scope.proofs.OneFirst.{IsFirstFault-same}
 use Rattle.flat_modules.specs.FlatModules.{IsFlatModule}
 use Rattle.token_readers.specs.declared.fault.ParseFault.{ParseFault}
 use Rattle.token_readers.specs.declared.fault.ParseFault.TheVariants as P
@@ -29,9 +34,9 @@ use Rattle.erl_tree.specs.declared.token.Place.{Place}
 use Rattle.etylizer_program.specs.Outside.{Holdings, Puts}
 use Rattle.etylizer_program.specs.Commands.{command_of}
 use Rattle.etylizer_program.specs.Report.{report_text}
-use Rattle.etylizer_program.specs.Check.{text_limit, IsFirstFault, IsUnexpected, IsOutOfProfile, IsTooDeep, IsNoText, IsParseRefusal, IsParsedAs, HasNoModule, IsNotBuilt, IsNoModuleAnswer, IsRightText, IsReadAs, IsAcceptedText, IsTextRefusal, IsTextVerdict}
+use Rattle.etylizer_program.specs.Check.{text_limit, IsFirstFault, IsUnexpected, IsOutOfProfile, IsTooDeep, IsNoText, IsParseRefusal, IsParsedAs, HasNoModule, HasWrongNames, HasToldFault, IsNotBuilt, IsNoModuleAnswer, IsWrongNamesAnswer, fault_words, placed, IsRightText, IsReadAs, IsAcceptedText, IsTextRefusal, IsTextVerdict}
 use Rattle.cert_checker.specs.Failures.{ShowsFirstFailure}
-use Rattle.etylizer_program.specs.Tool.{IsCheckOf, Judges, NamesText, NamesNoModule, NamesNotBuilt, NamesRightModule, verdict_status}
+use Rattle.etylizer_program.specs.Tool.{IsCheckOf, Judges, NamesText, NamesNoModule, NamesNotBuilt, NamesRightModule, NamesWrongNames, verdict_status}
 
 -- ---- tokens and faults
 
@@ -81,14 +86,68 @@ refusal_none text m (P.OutOfProfile place form) p is = outside_none text m place
 refusal_none text m (P.Unexpected place) p is = unexpected_none text m p is
 refusal_none text m (P.TooDeep place) p is = deep_none text m place p is
 
-no_text_none : (text : List ℕ) (m : Module) (place : Place) (words : Words) → IsParsedAs text m → IsNoText text place words → ⊥
-no_text_none text m place W.BadToken p is = no_fault text (module_tokens m) (L.BadToken place) p.lexed is
-no_text_none text m place W.BadEscape p is = no_fault text (module_tokens m) (L.BadEscape place) p.lexed is
-no_text_none text m place W.NumberTooWide p is = no_fault text (module_tokens m) (L.WideNumber place) p.lexed is
-no_text_none text m place (W.OutOfProfile form) p (inl is) = no_fault text (module_tokens m) (L.OutOfProfile place form) p.lexed is
-no_text_none text m place (W.OutOfProfile form) p (inr is) = outside_none text m place form p is
-no_text_none text m place W.Unexpected p is = unexpected_none text m p is
-no_text_none text m place W.TooDeep p is = deep_none text m place p is
+-- ---- names
+
+among_no_faults : (f : PlacedFault) (fs : List PlacedFault) → fs ≡ [] → Among f fs → ⊥
+among_no_faults f fs e a = subst (λ (gs : List PlacedFault). Among f gs) e a
+
+-- names aren't both right and wrong
+wrong_right : (text : List ℕ) (m : Module) (f : PlacedFault) → IsParsedAs text m → HasRightNames m → HasWrongNames text f → ⊥
+wrong_right text m f p right w = among_no_faults f (faults_of m) right (subst (λ (n : Module). Among f (faults_of n)) (same_parsed text w.tree m w.parsed p) w.first.stands)
+
+told_right : (text : List ℕ) (m : Module) (o : Option PlacedFault) → IsParsedAs text m → HasRightNames m → HasToldFault text o → ⊥
+told_right text m None p right is = is
+told_right text m (Some f) p right is = wrong_right text m f p right is
+
+-- a fault is told of a module
+told_module : (text : List ℕ) (o : Option PlacedFault) → HasNoModule text → HasToldFault text o → ⊥
+told_module text None none is = is
+told_module text (Some f) none is = none is.tree is.parsed
+
+-- a text has one first fault of names
+same_fault : (text : List ℕ) (f g : PlacedFault) → HasWrongNames text f → HasWrongNames text g → f ≡ g
+same_fault text f g w v = IsFirstFault-same v.tree f g (subst (λ (n : Module). IsFirstNameFault n f) (same_parsed text w.tree v.tree w.parsed v.parsed) w.first) v.first
+
+told_same : (text : List ℕ) (f : PlacedFault) (o : Option PlacedFault) → HasWrongNames text f → HasToldFault text o → o ≡ Some f
+told_same text f None w is = absurd is
+told_same text f (Some g) w is = ap Some (same_fault text g f is w)
+
+no_text_none : (text : List ℕ) (m : Module) (place : Place) (words : Words) → IsParsedAs text m → HasRightNames m → IsNoText text place words → ⊥
+no_text_none text m place W.BadToken p right is = no_fault text (module_tokens m) (L.BadToken place) p.lexed is
+no_text_none text m place W.BadEscape p right is = no_fault text (module_tokens m) (L.BadEscape place) p.lexed is
+no_text_none text m place W.NumberTooWide p right is = no_fault text (module_tokens m) (L.WideNumber place) p.lexed is
+no_text_none text m place (W.OutOfProfile form) p right (inl is) = no_fault text (module_tokens m) (L.OutOfProfile place form) p.lexed is
+no_text_none text m place (W.OutOfProfile form) p right (inr is) = outside_none text m place form p is
+no_text_none text m place W.Unexpected p right is = unexpected_none text m p is
+no_text_none text m place W.TooDeep p right is = deep_none text m place p is
+no_text_none text m place W.UnboundVariable p right is = wrong_right text m (placed N.Unbound place) p right is
+no_text_none text m place W.UnsafeVariable p right is = wrong_right text m (placed N.Unsafe place) p right is
+no_text_none text m place W.NoSuchFunction p right is = wrong_right text m (placed N.NoSuchFunction place) p right is
+no_text_none text m place W.TwoFunctions p right is = wrong_right text m (placed N.TwoFunctions place) p right is
+no_text_none text m place W.NoSpec p right is = wrong_right text m (placed N.NoSpec place) p right is
+no_text_none text m place W.NoSuchRecord p right is = wrong_right text m (placed N.NoSuchRecord place) p right is
+no_text_none text m place W.NoSuchField p right is = wrong_right text m (placed N.NoSuchField place) p right is
+no_text_none text m place W.Repeated p right is = wrong_right text m (placed N.Repeated place) p right is
+no_text_none text m place W.ArityDiffers p right is = wrong_right text m (placed N.ArityDiffers place) p right is
+
+-- a text whose names are wrong is refused by the words of its first fault
+wrong_text : (text : List ℕ) (f : PlacedFault) (place : Place) (words : Words) → HasWrongNames text f → IsNoText text place words → V.NotText place words ≡ V.NotText f.place (fault_words f.fault)
+wrong_text text f place W.BadToken w is = absurd (no_fault text (module_tokens w.tree) (L.BadToken place) w.parsed.lexed is)
+wrong_text text f place W.BadEscape w is = absurd (no_fault text (module_tokens w.tree) (L.BadEscape place) w.parsed.lexed is)
+wrong_text text f place W.NumberTooWide w is = absurd (no_fault text (module_tokens w.tree) (L.WideNumber place) w.parsed.lexed is)
+wrong_text text f place (W.OutOfProfile form) w (inl is) = absurd (no_fault text (module_tokens w.tree) (L.OutOfProfile place form) w.parsed.lexed is)
+wrong_text text f place (W.OutOfProfile form) w (inr is) = absurd (outside_none text w.tree place form w.parsed is)
+wrong_text text f place W.Unexpected w is = absurd (unexpected_none text w.tree w.parsed is)
+wrong_text text f place W.TooDeep w is = absurd (deep_none text w.tree place w.parsed is)
+wrong_text text f place W.UnboundVariable w is = ap (λ (z : PlacedFault). V.NotText z.place (fault_words z.fault)) (same_fault text (placed N.Unbound place) f is w)
+wrong_text text f place W.UnsafeVariable w is = ap (λ (z : PlacedFault). V.NotText z.place (fault_words z.fault)) (same_fault text (placed N.Unsafe place) f is w)
+wrong_text text f place W.NoSuchFunction w is = ap (λ (z : PlacedFault). V.NotText z.place (fault_words z.fault)) (same_fault text (placed N.NoSuchFunction place) f is w)
+wrong_text text f place W.TwoFunctions w is = ap (λ (z : PlacedFault). V.NotText z.place (fault_words z.fault)) (same_fault text (placed N.TwoFunctions place) f is w)
+wrong_text text f place W.NoSpec w is = ap (λ (z : PlacedFault). V.NotText z.place (fault_words z.fault)) (same_fault text (placed N.NoSpec place) f is w)
+wrong_text text f place W.NoSuchRecord w is = ap (λ (z : PlacedFault). V.NotText z.place (fault_words z.fault)) (same_fault text (placed N.NoSuchRecord place) f is w)
+wrong_text text f place W.NoSuchField w is = ap (λ (z : PlacedFault). V.NotText z.place (fault_words z.fault)) (same_fault text (placed N.NoSuchField place) f is w)
+wrong_text text f place W.Repeated w is = ap (λ (z : PlacedFault). V.NotText z.place (fault_words z.fault)) (same_fault text (placed N.Repeated place) f is w)
+wrong_text text f place W.ArityDiffers w is = ap (λ (z : PlacedFault). V.NotText z.place (fault_words z.fault)) (same_fault text (placed N.ArityDiffers place) f is w)
 
 -- what is read as a flat module isn't unbuilt
 read_built : (text : List ℕ) (m : Module) → IsLexed text (module_tokens m) → IsFlatModule m → IsNotBuilt text → ⊥
@@ -112,7 +171,7 @@ no_failure text right n function place kind shown read shows =
 accepted_verdict : (text : List ℕ) (right : IsRightText text) (verdict : Verdict) → length text ≤ text_limit → IsTextVerdict text verdict → verdict_status verdict ≡ 0
 accepted_verdict text right (V.Accepted name functions clauses) short is = refl
 accepted_verdict text right (V.Failed name function arity clause place kind shown) short is = absurd (no_failure text right is.0 is.2.number place kind shown is.1 is.2.failed)
-accepted_verdict text right (V.NotText place words) short is = absurd (no_text_none text right.tree place words (right_parsed text right) is)
+accepted_verdict text right (V.NotText place words) short is = absurd (no_text_none text right.tree place words (right_parsed text right) right.flat.readable.right_names is)
 accepted_verdict text right (V.NotUtf8 at) short is = absurd (no_fault text (module_tokens right.tree) (L.NotUtf8 at) right.lexed is)
 accepted_verdict text right V.TooLong short is = absurd (omega arith)
 accepted_verdict text right V.NotBuilt short is = absurd (read_built text right.tree right.lexed right.flat is)
@@ -122,11 +181,21 @@ accepted_verdict text right V.Usage short is = absurd is
 unbuilt_verdict : (text : List ℕ) (verdict : Verdict) → length text ≤ text_limit → IsNotBuilt text → IsTextVerdict text verdict → verdict ≡ V.NotBuilt
 unbuilt_verdict text (V.Accepted name functions clauses) short unbuilt is = absurd (read_built text is.safe.tree is.lexed is.flat unbuilt)
 unbuilt_verdict text (V.Failed name function arity clause place kind shown) short unbuilt is = absurd (read_built text is.0 is.1.lexed is.1.flat unbuilt)
-unbuilt_verdict text (V.NotText place words) short unbuilt is = absurd (no_text_none text unbuilt.tree place words unbuilt.parsed is)
+unbuilt_verdict text (V.NotText place words) short unbuilt is = absurd (no_text_none text unbuilt.tree place words unbuilt.parsed unbuilt.right_names is)
 unbuilt_verdict text (V.NotUtf8 at) short unbuilt is = absurd (no_fault text (module_tokens unbuilt.tree) (L.NotUtf8 at) unbuilt.parsed.lexed is)
 unbuilt_verdict text V.TooLong short unbuilt is = absurd (omega arith)
 unbuilt_verdict text V.NotBuilt short unbuilt is = refl
 unbuilt_verdict text V.Usage short unbuilt is = absurd is
+
+-- the verdict on a module whose names are wrong
+wrong_verdict : (text : List ℕ) (f : PlacedFault) (verdict : Verdict) → length text ≤ text_limit → HasWrongNames text f → IsTextVerdict text verdict → verdict ≡ V.NotText f.place (fault_words f.fault)
+wrong_verdict text f (V.Accepted name functions clauses) short w is = absurd (wrong_right text is.safe.tree f (read_parsed text is.safe.tree is.lexed is.flat) is.flat.readable.right_names w)
+wrong_verdict text f (V.Failed name function arity clause place kind shown) short w is = absurd (wrong_right text is.0 f (read_parsed text is.0 is.1.lexed is.1.flat) is.1.flat.readable.right_names w)
+wrong_verdict text f (V.NotText place words) short w is = wrong_text text f place words w is
+wrong_verdict text f (V.NotUtf8 at) short w is = absurd (no_fault text (module_tokens w.tree) (L.NotUtf8 at) w.parsed.lexed is)
+wrong_verdict text f V.TooLong short w is = absurd (omega arith)
+wrong_verdict text f V.NotBuilt short w is = absurd (wrong_right text is.tree f is.parsed is.right_names w)
+wrong_verdict text f V.Usage short w is = absurd is
 
 -- the verdict on a text without a module
 no_module_verdict : (text : List ℕ) (verdict : Verdict) → HasNoModule text → IsTextVerdict text verdict → verdict_status verdict ≡ 3
@@ -146,6 +215,7 @@ right_is_accepted text (Err R.NoMemory) is right short = inr refl
 right_is_accepted text (Err R.TooLong) is right short = absurd (omega arith)
 right_is_accepted text (Err (R.Lex fault)) is right short = absurd (no_fault text (module_tokens right.tree) fault right.lexed is)
 right_is_accepted text (Err (R.Parse fault)) is right short = absurd (refusal_none text right.tree fault (right_parsed text right) is)
+right_is_accepted text (Err (R.Scope fault)) is right short = absurd (told_right text right.tree (placed_fault fault) (right_parsed text right) right.flat.readable.right_names is)
 right_is_accepted text (Err R.NotBuilt) is right short = absurd (read_built text right.tree right.lexed right.flat is)
 right_is_accepted text (Err (R.Types F.NoMemory)) is right short = absurd is.2
 right_is_accepted text (Err (R.Types (F.Failed function place kind shown))) is right short = absurd (no_failure text right is.0 function place kind shown is.1 is.2)
@@ -156,6 +226,7 @@ unbuilt_is_refused text (Err R.NoMemory) accepted is unbuilt short = inr refl
 unbuilt_is_refused text (Err R.TooLong) accepted is unbuilt short = absurd (omega arith)
 unbuilt_is_refused text (Err (R.Lex fault)) accepted is unbuilt short = absurd (no_fault text (module_tokens unbuilt.tree) fault unbuilt.parsed.lexed is)
 unbuilt_is_refused text (Err (R.Parse fault)) accepted is unbuilt short = absurd (refusal_none text unbuilt.tree fault unbuilt.parsed is)
+unbuilt_is_refused text (Err (R.Scope fault)) accepted is unbuilt short = absurd (told_right text unbuilt.tree (placed_fault fault) unbuilt.parsed unbuilt.right_names is)
 unbuilt_is_refused text (Err R.NotBuilt) accepted is unbuilt short = inl refl
 unbuilt_is_refused text (Err (R.Types refusal)) accepted is unbuilt short = absurd (read_built text is.0 is.1.lexed is.1.flat unbuilt)
 
@@ -165,8 +236,19 @@ no_module_is_refused text (Err R.NoMemory) accepted is none short = tt
 no_module_is_refused text (Err R.TooLong) accepted is none short = absurd (omega arith)
 no_module_is_refused text (Err (R.Lex fault)) accepted is none short = tt
 no_module_is_refused text (Err (R.Parse fault)) accepted is none short = tt
+no_module_is_refused text (Err (R.Scope fault)) accepted is none short = told_module text (placed_fault fault) none is
 no_module_is_refused text (Err R.NotBuilt) accepted is none short = none is.tree is.parsed
 no_module_is_refused text (Err (R.Types refusal)) accepted is none short = none is.0 (read_parsed text is.0 is.1.lexed is.1.flat)
+
+pub wrong_is_refused : (text : List ℕ) (f : PlacedFault) (result : Result Accepted Refused) → IfOk result (λ a. IsAcceptedText text a.name a.functions a.clauses) → IfErr result (IsTextRefusal text) → HasWrongNames text f → length text ≤ text_limit → IsWrongNamesAnswer f result
+wrong_is_refused text f (Ok a) accepted is w short = wrong_right text accepted.safe.tree f (read_parsed text accepted.safe.tree accepted.lexed accepted.flat) accepted.flat.readable.right_names w
+wrong_is_refused text f (Err R.NoMemory) accepted is w short = tt
+wrong_is_refused text f (Err R.TooLong) accepted is w short = absurd (omega arith)
+wrong_is_refused text f (Err (R.Lex fault)) accepted is w short = no_fault text (module_tokens w.tree) fault w.parsed.lexed is
+wrong_is_refused text f (Err (R.Parse fault)) accepted is w short = refusal_none text w.tree fault w.parsed is
+wrong_is_refused text f (Err (R.Scope fault)) accepted is w short = told_same text f (placed_fault fault) w is
+wrong_is_refused text f (Err R.NotBuilt) accepted is w short = wrong_right text is.tree f is.parsed is.right_names w
+wrong_is_refused text f (Err (R.Types refusal)) accepted is w short = wrong_right text is.0 f (read_parsed text is.0 is.1.lexed is.1.flat) is.1.flat.readable.right_names w
 
 -- ---- what was judged is what is named
 
@@ -227,6 +309,16 @@ refuses status words held before after none small read write usage judges =
     few status small read write usage (λ below not_two.
     let j : Judges status words held before after = judges below not_two in
     sym j.judged.status_is ∙ no_module_verdict none.text j.judged.verdict none.none (judged_text status words held before after none.text none.named j))
+
+-- a module whose names are wrong is refused with their first fault
+pub refuses_names : (status : ℕ) (words : List (List ℕ)) (held : Option Holdings) (before after : Option (List ℕ)) (f : PlacedFault) → NamesWrongNames words held f → status ≤ 6
+    → (status ≡ 4 → ⊥) → (status ≡ 5 → ⊥) → (status ≡ 2 → ⊥) → (status < 4 → status ≢ 2 → Judges status words held before after)
+    → ((status ≡ 3) × Puts before after (report_text (V.NotText f.place (fault_words f.fault)))) ⊎ (status ≡ 6)
+refuses_names status words held before after f wrong small read write usage judges =
+    few status small read write usage (λ below not_two.
+    let j : Judges status words held before after = judges below not_two in
+    let is : j.judged.verdict ≡ V.NotText f.place (fault_words f.fault) = wrong_verdict wrong.text f j.judged.verdict wrong.named.short wrong.wrong (judged_text status words held before after wrong.text wrong.named j) in
+    (sym j.judged.status_is ∙ ap (λ (v : Verdict). verdict_status v) is, subst (λ (v : Verdict). Puts before after (report_text v)) is j.judged.written))
 
 -- a module that isn't flat isn't built yet
 pub not_yet : (status : ℕ) (words : List (List ℕ)) (held : Option Holdings) (before after : Option (List ℕ)) → NamesNotBuilt words held → status ≤ 6

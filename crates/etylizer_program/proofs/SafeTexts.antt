@@ -8,8 +8,9 @@ use Rattle.erl_tree.proofs.TextExamples.{dollar_spells_nothing}
 use Rattle.erl_grammar.specs.FormSpelling.{module_tokens}
 use Rattle.erl_grammar.specs.Texts.{SpellsModule}
 use Rattle.erl_runs.specs.Specs.{specs_of}
-use Rattle.erl_runs.specs.Readable.{IsReadable}
-use Rattle.erl_runs.specs.Safety.{IsSafe, IsSafeText}
+use Rattle.readable_modules.specs.Readable.{IsReadable}
+use Rattle.erl_runs.specs.Safety.{IsSafe}
+use Rattle.readable_modules.specs.SafeTexts.{IsSafeText}
 use Rattle.erl_runs.proofs.TextExamples.{small_module_spelled}
 use Rattle.erl_parser.proofs.TextLaws.{one_module}
 
@@ -18,7 +19,7 @@ only_small other s = one_module small_text other small_module s small_module_spe
 
 small_readable : IsReadable small_module
 unfolding specs_of
-small_readable = record { specs_read = refl; functions_distinct = tt; not_built_in = tt; specs_distinct = tt; specified = tt; defined = tt; scoped = tt; calls_defined = tt }
+small_readable = record { right_names = refl; specs_read = refl; specs_distinct = tt }
 
 small_is_safe : IsSafe small_module (specs_of small_module) given_definitions
 small_is_safe outside f arrow i args steps among = absurd among

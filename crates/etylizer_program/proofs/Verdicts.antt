@@ -24,7 +24,8 @@ use Rattle.token_readers.specs.declared.fault.ParseFault.TheVariants as P
 use Rattle.token_readers.specs.Outside.{HasOutside}
 use Rattle.erl_parser.proofs.TextLaws.{one_module, lexed_in_limit}
 use Rattle.flat_modules.specs.FlatModules.{IsFlatModule}
-use Rattle.erl_runs.specs.Safety.{IsSafe, IsSafeText}
+use Rattle.erl_runs.specs.Safety.{IsSafe}
+use Rattle.readable_modules.specs.SafeTexts.{IsSafeText}
 use Rattle.cert_checker.specs.Failures.{MeetsConstraints, ShowsFirstFailure}
 use Rattle.cert_checker.specs.declared.refusal.FirstRefusal.{FirstRefusal}
 use Rattle.cert_checker.specs.declared.refusal.FirstRefusal.TheVariants as F

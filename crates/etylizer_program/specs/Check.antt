@@ -1,5 +1,5 @@
 -- What the program says of a module's text.
-use Rattle.std.specs.Prelude.{◌≡◌, ◌≢◌, ◌⊎◌, ◌<◌, ◌+◌, ◌↔◌, ℕ, List, [], ◌∷◌, length, slice_get, Some, Result, Ok, Err}
+use Rattle.std.specs.Prelude.{◌≡◌, ◌≢◌, ◌⊎◌, ◌<◌, ◌+◌, ◌↔◌, ℕ, List, [], ◌∷◌, length, slice_get, Option, Some, None, Result, Ok, Err}
 use Rattle.std.specs.Option.{option_map}
 use Rattle.type_terms.specs.Definitions.{given_definitions}
 use Rattle.type_terms.specs.declared.spec.Kind.{Kind}
@@ -24,8 +24,15 @@ use Rattle.erl_lexer.specs.declared.LexFault.{LexFault}
 use Rattle.erl_lexer.specs.declared.LexFault.TheVariants as L
 use Rattle.erl_lexer.specs.Faults.{IsFault}
 use Rattle.erl_tree.specs.Lists.{Every, Among}
+use Rattle.scope_rules.specs.declared.fault.NameFault.{NameFault}
+use Rattle.scope_rules.specs.declared.fault.NameFault.TheVariants as N
+use Rattle.scope_rules.specs.declared.fault.PlacedFault.{PlacedFault}
+use Rattle.scope_rules.specs.ScopeFaults.{HasRightNames, IsFirstFault as IsFirstNameFault}
+use Rattle.erl_scope.specs.declared.fault.ScopeFault.{ScopeFault}
+use Rattle.erl_scope.specs.FaultPlaces.{placed_fault}
 use Rattle.flat_modules.specs.FlatModules.{IsFlatModule}
-use Rattle.erl_runs.specs.Safety.{IsSafe, IsSafeText}
+use Rattle.erl_runs.specs.Safety.{IsSafe}
+use Rattle.readable_modules.specs.SafeTexts.{IsSafeText}
 use Rattle.cert_checker.specs.declared.refusal.Shown.{Shown}
 use Rattle.cert_checker.specs.declared.refusal.FirstRefusal.{FirstRefusal}
 use Rattle.cert_checker.specs.declared.refusal.FirstRefusal.TheVariants.{NoMemory as NoMemoryToCheck, Failed as FailedConstraint}
@@ -33,7 +40,7 @@ use Rattle.cert_checker.specs.Constraints.{Test, FindsFits, Holds, owed_of}
 use Rattle.cert_checker.specs.Failures.{MeetsConstraints, ShowsFirstFailure}
 use Rattle.etylizer_program.specs.declared.check.Accepted.{Accepted as AcceptedText}
 use Rattle.etylizer_program.specs.declared.check.Refused.{Refused}
-use Rattle.etylizer_program.specs.declared.check.Refused.TheVariants.{NoMemory as NoMemoryForText, TooLong as TooLongText, Lex as LexText, Parse as ParseText, NotBuilt as NotBuiltText, Types}
+use Rattle.etylizer_program.specs.declared.check.Refused.TheVariants.{NoMemory as NoMemoryForText, TooLong as TooLongText, Lex as LexText, Parse as ParseText, Scope as ScopeText, NotBuilt as NotBuiltText, Types}
 use Rattle.etylizer_program.specs.declared.report.Verdict.{Verdict}
 use Rattle.etylizer_program.specs.declared.report.Verdict.TheVariants.{Accepted, Failed, NotText, NotUtf8, TooLong, NotBuilt, Usage}
 use Rattle.etylizer_program.specs.declared.report.Words.{Words}
@@ -91,10 +98,26 @@ pub record IsParsedAs (text : List ℕ) (m : Module) : Type 0 where
 abbrev pub HasNoModule : List ℕ → Type 0
 HasNoModule text = (m : Module) → IsParsedAs text m → ⊥
 
--- there is such a module, and it isn't flat
+-- there is such a module, and this is the first fault of its names
+pub record HasWrongNames (text : List ℕ) (fault : PlacedFault) : Type 0 where
+  pub tree : Module
+  pub parsed : IsParsedAs text tree
+  pub first : IsFirstNameFault tree fault
+
+-- the first fault of the names, if one is told
+abbrev pub HasToldFault : List ℕ → Option PlacedFault → Type 0
+HasToldFault text None = ⊥
+HasToldFault text (Some fault) = HasWrongNames text fault
+
+-- why the names of a text's module are refused
+abbrev pub IsScopeRefusal : List ℕ → ScopeFault → Type 0
+IsScopeRefusal text fault = HasToldFault text (placed_fault fault)
+
+-- there is such a module, nothing is wrong with its names, and it isn't flat
 pub record IsNotBuilt (text : List ℕ) : Type 0 where
   pub tree : Module
   pub parsed : IsParsedAs text tree
+  pub right_names : HasRightNames tree
   pub not_flat : IsFlatModule tree → ⊥
 
 -- the bytes are lexed as the tokens of a flat module all of whose constraints hold, with some test of arguments that finds what fits
@@ -172,6 +195,7 @@ IsTextRefusal text TooLongText = text_limit < length text
 IsTextRefusal text NotBuiltText = IsNotBuilt text
 IsTextRefusal text (LexText fault) = IsFirstFault text fault
 IsTextRefusal text (ParseText fault) = IsParseRefusal text fault
+IsTextRefusal text (ScopeText fault) = IsScopeRefusal text fault
 IsTextRefusal text (Types refusal) = (m : Module) × IsReadAs text m × IsFailure m refusal
 
 -- a text without a module is refused by the lexer or the parser, unless memory runs out
@@ -181,6 +205,13 @@ IsNoModuleAnswer (Err NoMemoryForText) = Unit {0}
 IsNoModuleAnswer (Err (LexText fault)) = Unit {0}
 IsNoModuleAnswer (Err (ParseText fault)) = Unit {0}
 IsNoModuleAnswer (Err _) = ⊥
+
+-- a text whose module has wrong names is refused with their first fault, unless memory runs out
+abbrev pub IsWrongNamesAnswer : PlacedFault → Result AcceptedText Refused → Type 0
+IsWrongNamesAnswer fault (Ok a) = ⊥
+IsWrongNamesAnswer fault (Err NoMemoryForText) = Unit {0}
+IsWrongNamesAnswer fault (Err (ScopeText answer)) = placed_fault answer ≡ Some fault
+IsWrongNamesAnswer fault (Err _) = ⊥
 
 -- a function's name and arity
 abbrev pub name_and_arity : Function → List ℕ × ℕ
@@ -196,7 +227,23 @@ pub record IsFailedModule (m : Module) (name function : List ℕ) (arity clause 
 
 -- ---- verdicts
 
--- why a text within the limit has no module, by the words of its refusal and the place
+-- the words for a fault of names
+abbrev pub fault_words : NameFault → Words
+fault_words N.Unbound = W.UnboundVariable
+fault_words N.Unsafe = W.UnsafeVariable
+fault_words N.NoSuchFunction = W.NoSuchFunction
+fault_words N.TwoFunctions = W.TwoFunctions
+fault_words N.NoSpec = W.NoSpec
+fault_words N.NoSuchRecord = W.NoSuchRecord
+fault_words N.NoSuchField = W.NoSuchField
+fault_words N.Repeated = W.Repeated
+fault_words N.ArityDiffers = W.ArityDiffers
+
+-- a fault of names at a place
+abbrev pub placed : NameFault → Place → PlacedFault
+placed fault place = record { place = place; fault = fault }
+
+-- why a text within the limit has no module with right names, by the words of its refusal and the place
 abbrev pub IsNoText : List ℕ → Place → Words → Type 0
 IsNoText text place W.BadToken = IsFirstFault text (L.BadToken place)
 IsNoText text place W.BadEscape = IsFirstFault text (L.BadEscape place)
@@ -204,6 +251,15 @@ IsNoText text place W.NumberTooWide = IsFirstFault text (L.WideNumber place)
 IsNoText text place (W.OutOfProfile form) = IsFirstFault text (L.OutOfProfile place form) ⊎ IsOutOfProfile text place form
 IsNoText text place W.Unexpected = IsUnexpected text
 IsNoText text place W.TooDeep = IsTooDeep text place
+IsNoText text place W.UnboundVariable = HasWrongNames text (placed N.Unbound place)
+IsNoText text place W.UnsafeVariable = HasWrongNames text (placed N.Unsafe place)
+IsNoText text place W.NoSuchFunction = HasWrongNames text (placed N.NoSuchFunction place)
+IsNoText text place W.TwoFunctions = HasWrongNames text (placed N.TwoFunctions place)
+IsNoText text place W.NoSpec = HasWrongNames text (placed N.NoSpec place)
+IsNoText text place W.NoSuchRecord = HasWrongNames text (placed N.NoSuchRecord place)
+IsNoText text place W.NoSuchField = HasWrongNames text (placed N.NoSuchField place)
+IsNoText text place W.Repeated = HasWrongNames text (placed N.Repeated place)
+IsNoText text place W.ArityDiffers = HasWrongNames text (placed N.ArityDiffers place)
 
 -- what a verdict says of a module that was read
 abbrev pub IsModuleVerdict : Module → Verdict → Type 0

@@ -13,7 +13,7 @@ use Rattle.cert_checker.specs.declared.refusal.Shown.TheVariants.{One, Missing}
 use Rattle.etylizer_program.specs.declared.report.Verdict.{Verdict}
 use Rattle.etylizer_program.specs.declared.report.Verdict.TheVariants.{Accepted, Failed, NotText, NotUtf8, TooLong, NotBuilt, Usage}
 use Rattle.etylizer_program.specs.declared.report.Words.{Words}
-use Rattle.etylizer_program.specs.declared.report.Words.TheVariants.{BadToken, BadEscape, NumberTooWide, OutOfProfile, Unexpected, TooDeep}
+use Rattle.etylizer_program.specs.declared.report.Words.TheVariants.{BadToken, BadEscape, NumberTooWide, OutOfProfile, Unexpected, TooDeep, UnboundVariable, UnsafeVariable, NoSuchFunction, TwoFunctions, NoSpec, NoSuchRecord, NoSuchField, Repeated, ArityDiffers}
 
 -- whether a small letter comes first
 abbrev pub begins_lower : List ℕ → Bool
@@ -74,6 +74,15 @@ words_text NumberTooWide = codes "number too wide"
 words_text (OutOfProfile form) = codes "out of profile: " ++ form
 words_text Unexpected = codes "unexpected"
 words_text TooDeep = codes "nested too deep"
+words_text UnboundVariable = codes "unbound variable"
+words_text UnsafeVariable = codes "unsafe variable"
+words_text NoSuchFunction = codes "no such function"
+words_text TwoFunctions = codes "function defined twice"
+words_text NoSpec = codes "no spec"
+words_text NoSuchRecord = codes "no such record"
+words_text NoSuchField = codes "no such field"
+words_text Repeated = codes "repeated"
+words_text ArityDiffers = codes "arity differs"
 
 -- line:column
 abbrev pub place_text : Place → List ℕ

@@ -2,14 +2,15 @@
 use Rattle.std.specs.Prelude.{◌≡◌, ◌≢◌, ◌⊎◌, ◌≤◌, ℕ, List, [], ◌∷◌, length, Option, Some, None, codes}
 use Rattle.std.specs.Option.{ForSome}
 use Rattle.flat_modules.specs.FlatModules.{IsFlatModule}
-use Rattle.erl_runs.specs.Safety.{IsSafeText}
+use Rattle.scope_rules.specs.declared.fault.PlacedFault.{PlacedFault}
+use Rattle.readable_modules.specs.SafeTexts.{IsSafeText}
 use Rattle.cert_checker.specs.Failures.{MeetsConstraints}
 use Rattle.etylizer_program.specs.declared.report.Verdict.{Verdict}
 use Rattle.etylizer_program.specs.declared.report.Verdict.TheVariants.{Accepted, Failed, NotText, NotUtf8, TooLong, NotBuilt, Usage}
 use Rattle.etylizer_program.specs.Outside.{Holdings, IsHeld, Puts, PutsBeginning}
 use Rattle.etylizer_program.specs.Commands.{command_of}
 use Rattle.etylizer_program.specs.Report.{report_text}
-use Rattle.etylizer_program.specs.Check.{text_limit, function_count, spec_clause_count, HasNoModule, IsNotBuilt, IsRightText, IsRightVerdict}
+use Rattle.etylizer_program.specs.Check.{text_limit, function_count, spec_clause_count, HasNoModule, HasWrongNames, IsNotBuilt, IsRightText, IsRightVerdict}
 
 -- the words are `check FILE`
 abbrev pub IsCheckOf : List (List ℕ) → (file : List ℕ) → Type 0
@@ -121,7 +122,13 @@ pub record NamesNoModule (words : List (List ℕ)) (held : Option Holdings) : Ty
   pub named : NamesText words held text
   pub none : HasNoModule text
 
--- the words name a text that is lexed as the tokens of such a module, which isn't flat
+-- the words name a text that is lexed as the tokens of such a module, and this is the first fault of its names
+pub record NamesWrongNames (words : List (List ℕ)) (held : Option Holdings) (fault : PlacedFault) : Type 0 where
+  pub text : List ℕ
+  pub named : NamesText words held text
+  pub wrong : HasWrongNames text fault
+
+-- the words name a text that is lexed as the tokens of such a module, whose names are right and which isn't flat
 pub record NamesNotBuilt (words : List (List ℕ)) (held : Option Holdings) : Type 0 where
   pub text : List ℕ
   pub named : NamesText words held text

@@ -4,18 +4,20 @@ ghost use Rattle.erl_grammar.specs.FormGrammar.{IsModule};
 ghost use Rattle.erl_grammar.specs.FormNesting.{IsModuleWithin};
 ghost use Rattle.erl_grammar.specs.Nesting.{nesting_limit};
 ghost use Rattle.erl_grammar.specs.Texts.{HasIntegersInLimit};
+ghost use Rattle.scope_rules.specs.ScopeFaults.{HasRightNames};
+ghost use Rattle.scope_rules.specs.declared.fault.PlacedFault.{PlacedFault};
 ghost use Rattle.flat_modules.specs.FlatModules.{IsFlatModule};
 ghost use Rattle.cert_checker.specs.declared.refusal.FirstRefusal.{FirstRefusal as Failure};
 ghost use Rattle.cert_checker.specs.Failures.{ShowsFirstFailure};
-ghost use Rattle.etylizer_program.specs.Check.{text_limit, HasNoModule, IsNotBuilt, IsRightText, IsReadAs, IsParsedAs, IsNoModuleAnswer, refused_by_parser, IsAcceptedModule, IsAcceptedText, IsTextRefusal, refused_as};
+ghost use Rattle.etylizer_program.specs.Check.{text_limit, HasNoModule, HasWrongNames, IsNotBuilt, IsRightText, IsReadAs, IsParsedAs, IsNoModuleAnswer, IsWrongNamesAnswer, refused_by_parser, IsAcceptedModule, IsAcceptedText, IsTextRefusal, refused_as};
 
 use crate::count::{count_functions, count_specs};
 use cert_checker::{FirstRefusal, check_first};
 use erl_lexer::{LexFault, lex};
 use erl_parser::{ParseFault, parse};
-use erl_scope::is_readable;
+use erl_scope::{ScopeFault, resolve};
 use erl_tree::{Module, Placed};
-use flat_modules::is_flat;
+use flat_tests::is_flat_module;
 use std::alloc::Global;
 use type_terms::{List, NoMemory, Plain, Text};
 
@@ -40,6 +42,8 @@ pub enum Refused {
     Lex(LexFault),
     /// Its tokens are those of no module that is nested at most 256 levels deep.
     Parse(ParseFault),
+    /// The names of its module are used wrongly.
+    Scope(ScopeFault),
     /// Its module isn't flat.
     NotBuilt,
     /// A constraint of its module fails.
@@ -63,9 +67,11 @@ impl From<FirstRefusal> for Refused {
 ///
 /// `TooLong` exactly where the text has more than `TEXT_LIMIT` bytes, whatever they are. Of a text
 /// within that limit: `Lex` where it has no tokens, with the first fault of the lexer; `Parse` where
-/// its tokens are those of no module of the profile, or of one that is nested too deep; `NotBuilt`
-/// where it spells a module that isn't flat (`docs/LANGUAGE.md`); `Types` where it spells a flat
-/// module, with the first constraint that fails. `NoMemory` where memory runs out.
+/// its tokens are those of no module of the profile, or of one that is nested too deep; `Scope` where
+/// it spells a module whose names are used wrongly, with their first fault (`docs/NAMES.md`);
+/// `NotBuilt` where it spells a module with right names that isn't flat (`docs/LANGUAGE.md`); `Types`
+/// where it spells a flat module, with the first constraint that fails. `NoMemory` where memory runs
+/// out.
 pub fn check_text(alloc: Global, text: &[u8]) -> Result<Accepted, Refused>
     ensures safe { IfOk result (λ a. IsAcceptedText text.now a.name a.functions a.clauses) }
     ensures refused { IfErr result (IsTextRefusal text.now) }
@@ -73,6 +79,7 @@ pub fn check_text(alloc: Global, text: &[u8]) -> Result<Accepted, Refused>
     ensures complete { IsRightText text.now → length text.now ≤ text_limit → IsOk result ⊎ IsErrOf result Refused.NoMemory }
     ensures not_built { IsNotBuilt text.now → length text.now ≤ text_limit → IsErrOf result Refused.NotBuilt ⊎ IsErrOf result Refused.NoMemory }
     ensures no_module { HasNoModule text.now → length text.now ≤ text_limit → IsNoModuleAnswer result }
+    ensures wrong_names { (fault : PlacedFault) → HasWrongNames text.now fault → length text.now ≤ text_limit → IsWrongNamesAnswer fault result }
 {
     read_and_check(alloc, text)
 }
@@ -132,9 +139,25 @@ fn refused_by(fault: ParseFault) -> Refused
     }
 }
 
-/// The module as which a text was parsed, where it is flat.
+/// The module as which a text was parsed, where its names are right and it is flat.
 fn read_module(alloc: Global, text: &[u8], tree: Module) -> Result<Module, Refused>
     requires { IsParsedAs text.now tree }
+    ensures read { IfOk result (IsReadAs text.now) }
+    ensures refused { IfErr result (IsTextRefusal text.now) }
+    ensures short { IsErrOf result Refused.TooLong → ⊥ }
+    ensures types { (refusal : Failure) → IsErrOf result (Refused.Types refusal) → ⊥ }
+{
+    match resolve(alloc, &tree) {
+        Ok(_) => read_resolved(alloc, text, tree),
+        Err(ScopeFault::NoMemory) => Err(Refused::NoMemory),
+        Err(fault) => Err(Refused::Scope(fault)),
+    }
+}
+
+/// The module as which a text was parsed, whose names are right, where it is flat.
+fn read_resolved(alloc: Global, text: &[u8], tree: Module) -> Result<Module, Refused>
+    requires parsed { IsParsedAs text.now tree }
+    requires right_names { HasRightNames tree }
     ensures read { IfOk result (IsReadAs text.now) }
     ensures refused { IfErr result (IsTextRefusal text.now) }
     ensures short { IsErrOf result Refused.TooLong → ⊥ }
@@ -145,20 +168,6 @@ fn read_module(alloc: Global, text: &[u8], tree: Module) -> Result<Module, Refus
         Ok(false) => Err(Refused::NotBuilt),
         Err(NoMemory) => Err(Refused::NoMemory),
     }
-}
-
-/// Whether a module that was parsed is flat.
-fn is_flat_module(alloc: Global, tree: &Module) -> Result<bool, NoMemory>
-    requires well_formed { IsModule tree.now }
-    requires within { IsModuleWithin nesting_limit tree.now }
-    requires in_limit { HasIntegersInLimit tree.now }
-    ensures sound { IfOk result (λ answer. IsTrue answer → IsFlatModule tree.now) }
-    ensures complete { IfOk result (λ answer. IsFlatModule tree.now → IsTrue answer) }
-{
-    if !is_flat(tree) {
-        return Ok(false);
-    }
-    is_readable(alloc, tree)
 }
 
 /// Checks a flat module.

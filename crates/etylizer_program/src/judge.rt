@@ -2,7 +2,7 @@ ghost use Rattle.std.specs.Prelude.{◌≡◌, ◌<◌, ◌≤◌, ℕ, List as 
 ghost use Rattle.erl_tree.specs.Functions.{functions_of};
 ghost use Rattle.flat_modules.specs.FlatModules.{IsFlatModule};
 ghost use Rattle.cert_checker.specs.Failures.{ShowsFirstFailure};
-ghost use Rattle.etylizer_program.specs.Check.{text_limit, IsFirstFault, IsParseRefusal, IsModuleVerdict, IsRightVerdict};
+ghost use Rattle.etylizer_program.specs.Check.{text_limit, IsFirstFault, IsParseRefusal, IsScopeRefusal, IsModuleVerdict, IsRightVerdict};
 
 use crate::check::{Refused, check_module, read_text};
 use crate::count::function_at;
@@ -10,6 +10,7 @@ use crate::report::{Verdict, Words};
 use cert_checker::{FirstRefusal, Shown};
 use erl_lexer::LexFault;
 use erl_parser::ParseFault;
+use erl_scope::ScopeFault;
 use erl_tree::{Module, Place};
 use std::alloc::Global;
 use type_terms::{Kind, NoMemory, Plain};
@@ -24,9 +25,17 @@ pub fn judge(alloc: Global, text: &[u8]) -> Result<Verdict, NoMemory>
         Err(Refused::TooLong) => Ok(Verdict::TooLong),
         Err(Refused::Lex(fault)) => fault_verdict(fault),
         Err(Refused::Parse(fault)) => parse_verdict(fault),
+        Err(Refused::Scope(fault)) => scope_verdict(fault),
         Err(Refused::NotBuilt) => Ok(Verdict::NotBuilt),
         Err(Refused::Types(_)) => unreachable!(),
     }
+}
+
+/// The verdict on a text that is refused at a place.
+fn not_text(place: Place, words: Words) -> Verdict
+    ensures { result ≡ Verdict.NotText place words }
+{
+    Verdict::NotText { place, words }
 }
 
 /// The verdict on a text with a fault of the lexer.
@@ -36,22 +45,10 @@ fn fault_verdict(fault: LexFault) -> Result<Verdict, NoMemory>
     match fault {
         LexFault::NoMemory => Err(NoMemory),
         LexFault::NotUtf8(at) => Ok(Verdict::NotUtf8 { at }),
-        LexFault::OutOfProfile(place, form) => Ok(Verdict::NotText {
-            place,
-            words: Words::OutOfProfile(form),
-        }),
-        LexFault::WideNumber(place) => Ok(Verdict::NotText {
-            place,
-            words: Words::NumberTooWide,
-        }),
-        LexFault::BadEscape(place) => Ok(Verdict::NotText {
-            place,
-            words: Words::BadEscape,
-        }),
-        LexFault::BadToken(place) => Ok(Verdict::NotText {
-            place,
-            words: Words::BadToken,
-        }),
+        LexFault::OutOfProfile(place, form) => Ok(not_text(place, Words::OutOfProfile(form))),
+        LexFault::WideNumber(place) => Ok(not_text(place, Words::NumberTooWide)),
+        LexFault::BadEscape(place) => Ok(not_text(place, Words::BadEscape)),
+        LexFault::BadToken(place) => Ok(not_text(place, Words::BadToken)),
     }
 }
 
@@ -61,18 +58,27 @@ fn parse_verdict(fault: ParseFault) -> Result<Verdict, NoMemory>
 {
     match fault {
         ParseFault::NoMemory => Err(NoMemory),
-        ParseFault::OutOfProfile(place, form) => Ok(Verdict::NotText {
-            place,
-            words: Words::OutOfProfile(form),
-        }),
-        ParseFault::Unexpected(place) => Ok(Verdict::NotText {
-            place,
-            words: Words::Unexpected,
-        }),
-        ParseFault::TooDeep(place) => Ok(Verdict::NotText {
-            place,
-            words: Words::TooDeep,
-        }),
+        ParseFault::OutOfProfile(place, form) => Ok(not_text(place, Words::OutOfProfile(form))),
+        ParseFault::Unexpected(place) => Ok(not_text(place, Words::Unexpected)),
+        ParseFault::TooDeep(place) => Ok(not_text(place, Words::TooDeep)),
+    }
+}
+
+/// The verdict on a text whose module has wrong names.
+fn scope_verdict(fault: ScopeFault) -> Result<Verdict, NoMemory>
+    ensures { IfOk result (λ verdict. (text : Listed ℕ) → IsScopeRefusal text fault → length text ≤ text_limit → IsRightVerdict text verdict) }
+{
+    match fault {
+        ScopeFault::NoMemory => Err(NoMemory),
+        ScopeFault::Unbound(place) => Ok(not_text(place, Words::UnboundVariable)),
+        ScopeFault::Unsafe(place) => Ok(not_text(place, Words::UnsafeVariable)),
+        ScopeFault::NoSuchFunction(place) => Ok(not_text(place, Words::NoSuchFunction)),
+        ScopeFault::TwoFunctions(place) => Ok(not_text(place, Words::TwoFunctions)),
+        ScopeFault::NoSpec(place) => Ok(not_text(place, Words::NoSpec)),
+        ScopeFault::NoSuchRecord(place) => Ok(not_text(place, Words::NoSuchRecord)),
+        ScopeFault::NoSuchField(place) => Ok(not_text(place, Words::NoSuchField)),
+        ScopeFault::Repeated(place) => Ok(not_text(place, Words::Repeated)),
+        ScopeFault::ArityDiffers(place) => Ok(not_text(place, Words::ArityDiffers)),
     }
 }
 

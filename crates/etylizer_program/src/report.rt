@@ -31,7 +31,8 @@ pub enum Verdict {
         kind: Kind,
         shown: Shown,
     },
-    /// The text is UTF-8, within the limit of length, and no module: why, and where.
+    /// The text is UTF-8, within the limit of length, and no module, or one whose names are wrong: why,
+    /// and where.
     NotText {
         place: Place,
         words: Words,
@@ -43,13 +44,13 @@ pub enum Verdict {
     },
     /// The text is longer than a module may be.
     TooLong,
-    /// The text is a module, which isn't flat.
+    /// The text is a module whose names are right, and which isn't flat.
     NotBuilt,
     /// The words are no command.
     Usage,
 }
 
-/// Why a text is no module.
+/// Why a text is no module with right names.
 #[derive(Drop)]
 pub enum Words {
     BadToken,
@@ -61,6 +62,24 @@ pub enum Words {
     Unexpected,
     /// A node that is nested deeper than 256 levels.
     TooDeep,
+    /// A variable is used that isn't bound.
+    UnboundVariable,
+    /// A variable that isn't bound was bound inside a construct that ended before it.
+    UnsafeVariable,
+    /// A function is named that isn't there.
+    NoSuchFunction,
+    /// A function is defined anew, or one that is built in.
+    TwoFunctions,
+    /// A function without a spec.
+    NoSpec,
+    /// A record that isn't declared.
+    NoSuchRecord,
+    /// A field that its record doesn't have.
+    NoSuchField,
+    /// A field that stands twice.
+    Repeated,
+    /// A clause with another number of patterns than the first one.
+    ArityDiffers,
 }
 
 /// The text of a verdict: one line.
@@ -127,6 +146,15 @@ fn push_words(out: &mut Vec<u8>, words: &Words) -> Result<(), AllocError>
         Words::OutOfProfile(form) => push_outside(out, form.as_slice()),
         Words::Unexpected => out.extend_from_slice(b"unexpected"),
         Words::TooDeep => out.extend_from_slice(b"nested too deep"),
+        Words::UnboundVariable => out.extend_from_slice(b"unbound variable"),
+        Words::UnsafeVariable => out.extend_from_slice(b"unsafe variable"),
+        Words::NoSuchFunction => out.extend_from_slice(b"no such function"),
+        Words::TwoFunctions => out.extend_from_slice(b"function defined twice"),
+        Words::NoSpec => out.extend_from_slice(b"no spec"),
+        Words::NoSuchRecord => out.extend_from_slice(b"no such record"),
+        Words::NoSuchField => out.extend_from_slice(b"no such field"),
+        Words::Repeated => out.extend_from_slice(b"repeated"),
+        Words::ArityDiffers => out.extend_from_slice(b"arity differs"),
     }
 }
 

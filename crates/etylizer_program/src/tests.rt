@@ -8,8 +8,9 @@ use crate::outside::{
 use crate::report::{Verdict, report};
 use crate::tool::{Status, run_tool};
 use cert_checker::{FirstRefusal, Shown};
-use erl_lexer::LexFault;
-use erl_parser::ParseFault;
+use erl_lexer::{LexFault, lex};
+use erl_parser::{ParseFault, parse};
+use erl_scope::{ScopeFault, resolve};
 use erl_tree::Place;
 use std::alloc::Global;
 use std::process::Abort;
@@ -136,7 +137,11 @@ const MODULES: [(&[u8], Status, &[u8]); 28] = [
         0,
         b"accepted a: 3 functions, 3 clauses\n",
     ),
-    (b"-spec f() -> b.\nf() -> g().\n", 3, NOT_BUILT),
+    (
+        b"-spec f() -> b.\nf() -> g().\n",
+        3,
+        b"not a module: 3:8: no such function\n",
+    ),
     (b"-spec f(3..1) -> b.\nf(_) -> b.\n", 3, NOT_BUILT),
     (b"-spec f() -> integer().\nf() -> - 1.\n", 3, NOT_BUILT),
     (
@@ -167,7 +172,7 @@ const MODULES: [(&[u8], Status, &[u8]); 28] = [
         b"not a module: 3:9: out of profile: list difference\n",
     ),
     (b"-spec f('a') -> 16#1f.\nf('a b') -> 31.\n", 3, NOT_BUILT),
-    (b"f() -> 1.\n", 3, NOT_BUILT),
+    (b"f() -> 1.\n", 3, b"not a module: 2:1: no spec\n"),
     (b"hello", 3, b"not a module: 2:6: unexpected\n"),
     (b"f() -> a b.", 3, b"not a module: 2:10: unexpected\n"),
 ];
@@ -269,6 +274,239 @@ fn names_what_is_outside_of_the_profile(rt: HostRuntime) -> Result<(), Fail> {
     Ok(())
 }
 
+/// Lines behind `-module(a).` whose names are wrong, the place of their first fault and its words.
+const WRONG_NAMES: [(&str, &str); 50] = [
+    ("f() -> 1.", "2:1: no spec"),
+    (
+        "-spec f() -> 1.\nf() -> 1.\nf() -> 1.",
+        "4:1: function defined twice",
+    ),
+    (
+        "-spec f(a) -> a.\nf(X) -> case X of Y -> Y end, Y.",
+        "3:31: unsafe variable",
+    ),
+    ("-spec f(a) -> a.\nf(X) -> Y.", "3:9: unbound variable"),
+    ("-spec f(a) -> a.\nf(_) -> _.", "3:9: unbound variable"),
+    (
+        "-spec f(a) -> a.\nf(X) -> Y, Y = X.",
+        "3:9: unbound variable",
+    ),
+    (
+        "-spec f(a) -> a.\nf(X) when Y -> X.",
+        "3:11: unbound variable",
+    ),
+    (
+        "-spec f(a) -> a.\nf(X) -> case X of Y when Y == Z -> Y end.",
+        "3:31: unbound variable",
+    ),
+    (
+        "-spec f(a) -> a.\nf(X) -> begin Y = X end, Y.",
+        "3:26: unsafe variable",
+    ),
+    (
+        "-spec f(a) -> a.\nf(X) -> if X == a -> Y = b; true -> Y = c end, Y.",
+        "3:48: unsafe variable",
+    ),
+    (
+        "-spec f(a) -> a.\nf(X) -> X = begin Y = X, Y end, Y.",
+        "3:33: unsafe variable",
+    ),
+    (
+        "-spec f(a) -> a.\nf(_) -> {case a of X -> X end, X}.",
+        "3:32: unsafe variable",
+    ),
+    (
+        "-spec f(a) -> a.\nf(X) -> case X of Y -> Y end, Y = X.",
+        "3:31: unsafe variable",
+    ),
+    (
+        "-spec f(a) -> a.\nf(X) -> case X of a -> Y = b, Y; b -> Y end.",
+        "3:39: unbound variable",
+    ),
+    (
+        "-spec f(a) -> a.\nf(X) -> try Y = X, Y of Z -> Y catch _ -> b end.",
+        "3:30: unsafe variable",
+    ),
+    (
+        "-spec f(a) -> a.\nf(X) -> try X catch _ -> Y = b, Y end, Y.",
+        "3:40: unsafe variable",
+    ),
+    (
+        "-spec f(a) -> a.\nf(X) -> try X of Y -> b catch _ -> Y end.",
+        "3:36: unbound variable",
+    ),
+    (
+        "-spec f(a) -> a.\nf(X) -> try Y = X, Y catch _ -> b after Y end.",
+        "3:41: unsafe variable",
+    ),
+    (
+        "-spec f(a) -> a.\nf(X) -> fun(Y) -> Y end, Y.",
+        "3:26: unbound variable",
+    ),
+    (
+        "-spec f(a) -> a.\nf(X) -> fun(Y) -> begin Z = Y, Z end end, Z.",
+        "3:43: unbound variable",
+    ),
+    (
+        "-spec f(a) -> a.\nf(L) -> [X || X <- X].",
+        "3:20: unbound variable",
+    ),
+    (
+        "-spec f(a) -> a.\nf(L) -> [X || Y <- X, X <- L].",
+        "3:20: unbound variable",
+    ),
+    (
+        "-spec f(a) -> a.\nf(L) -> [X || X <- L], X.",
+        "3:24: unbound variable",
+    ),
+    (
+        "-spec f(a) -> a.\nf(L) -> [begin Z = b, Z end || X <- [begin Z = L, Z end]].",
+        "3:44: unsafe variable",
+    ),
+    ("-spec f(a) -> a.\nf(X) -> g(X).", "3:9: no such function"),
+    (
+        "-spec f(a) -> a.\nf(X) -> f(X, X).",
+        "3:9: no such function",
+    ),
+    (
+        "-spec f(a) -> a.\nf(X) -> erlang:foo(X).",
+        "3:9: no such function",
+    ),
+    (
+        "-spec f(a) -> a.\nf(X) -> erlang:f(X).",
+        "3:9: no such function",
+    ),
+    (
+        "-spec f(a) -> a.\nf(_) -> fun g/1.",
+        "3:9: no such function",
+    ),
+    (
+        "-spec f(a) -> a.\nf(_) -> fun hd/1.",
+        "3:9: no such function",
+    ),
+    (
+        "-export([f/1, g/0]).\n-spec f(a) -> a.\nf(X) -> X.",
+        "2:1: no such function",
+    ),
+    (
+        "-spec f(a) -> a.\nf(X) -> X.\n-spec g() -> a.",
+        "4:1: no such function",
+    ),
+    (
+        "-spec hd(a) -> a.\nhd(X) -> X.",
+        "3:1: function defined twice",
+    ),
+    ("-spec f(a) -> a.\nf(_) -> #r{}.", "3:9: no such record"),
+    ("-spec f(a) -> a.\nf(X) -> X#r.a.", "3:9: no such record"),
+    ("-spec f(a) -> a.\nf(#r{}) -> a.", "3:3: no such record"),
+    (
+        "-record(r, {a}).\n-spec f(a) -> a.\nf(X) -> X#r.b.",
+        "4:9: no such field",
+    ),
+    (
+        "-record(r, {a}).\n-spec f(a) -> a.\nf(_) -> #r{b = c}.",
+        "4:12: no such field",
+    ),
+    (
+        "-record(r, {a}).\n-record(r, {b}).\n-spec f(a) -> a.\nf(X) -> X#r.b.",
+        "5:9: no such field",
+    ),
+    (
+        "-record(r, {a}).\n-spec f(a) -> a.\nf(_) -> #r{a = b, a = c}.",
+        "4:19: repeated",
+    ),
+    (
+        "-record(r, {a}).\n-spec f(a) -> a.\nf(#r{a = X, a = Y}) -> {X, Y}.",
+        "4:13: repeated",
+    ),
+    ("-record(r, {a = X}).", "2:17: unbound variable"),
+    ("-record(r, {a = g()}).", "2:17: no such function"),
+    (
+        "-spec f(a) -> a.\nf(X) -> X;\nf(X, Y) -> {X, Y}.",
+        "4:1: arity differs",
+    ),
+    (
+        "-spec f(a) -> a.\nf(_) -> fun(X) -> X; (X, Y) -> {X, Y} end.",
+        "3:22: arity differs",
+    ),
+    ("f(X) -> Y.", "2:1: no spec"),
+    ("hd(X) -> X.", "2:1: function defined twice"),
+    (
+        "-spec f(a) -> a.\nf(X) -> {g(X), Y}.",
+        "3:10: no such function",
+    ),
+    ("-spec f(a) -> a.\nf(X) -> g(Y).", "3:9: no such function"),
+    (
+        "-spec f(a) -> a.\nf(X) -> {Y, g(X)}.",
+        "3:10: unbound variable",
+    ),
+];
+
+/// Lines behind `-module(a).` whose names are right, of modules that aren't flat.
+const RIGHT_NAMES: [&str; 22] = [
+    "-spec f(a) -> a.\nf(X) -> Y = X, Y.",
+    "-spec f(a) -> a.\nf(X) -> X = b, X.",
+    "-spec f(a, a) -> a.\nf(X, X) -> X.",
+    "-spec f(a) -> a.\nf(_) -> X = begin X = b, X end, X.",
+    "-spec f(a) -> a.\nf(X) -> case X of {Y, Y} -> Y; Y -> Y end.",
+    "-spec f(a) -> a.\nf(X) -> case X of a -> Y = b; b -> Y = c end.",
+    "-spec f(a) -> a.\nf(X) -> case X of Y -> Y end, fun(Y) -> Y end.",
+    "-spec f(a) -> a.\nf(X) -> case X of Y -> Y end, [Y || Y <- X].",
+    "-spec f(a) -> a.\nf(X) -> try X of Y -> Y catch Y -> Y end.",
+    "-spec f(a) -> a.\nf(X) -> try X catch C:Y when Y == C -> {C, Y} end.",
+    "-spec f(a) -> a.\nf(X) -> try X after Y = X, Y end.",
+    "-spec f(a) -> a.\nf(X) -> fun(X) -> X end.",
+    "-spec f(a) -> a.\nf(L) -> [X || X <- L].",
+    "-spec f(a) -> a.\nf(X) -> [X || X <- X].",
+    "-spec f(a) -> a.\nf(L) -> [Y || X <- L, Y <- X].",
+    "-spec f(a) -> a.\nf(L) -> [begin X = b, X end || X <- [begin X = L, X end]].",
+    "-spec f(a) -> a.\nf(X) -> erlang:hd(X).",
+    "-spec f(a) -> a.\nf(X) -> hd(X).",
+    "-spec f(a) -> a.\nf(_) -> fun f/1.",
+    "-spec f(a) -> a.\nf(X) -> X(X).",
+    "-export([f/1]).\n-spec f(a) -> a.\nf(X) -> X.",
+    "-record(r, {a, b = c}).\n-spec f(a) -> a.\nf(#r{a = X}) -> #r{b = X}.",
+];
+
+#[test]
+fn tells_wrong_names(rt: HostRuntime) -> Result<(), Fail> {
+    let alloc = rt.alloc();
+    for (lines, refusal) in WRONG_NAMES {
+        let text = format!(in alloc; "-module(a).\n{lines}\n")?;
+        let output = format!(in alloc; "not a module: {refusal}\n")?;
+        expect(&rt, alloc, text.as_bytes(), 3, output.as_bytes())?;
+    }
+    for lines in RIGHT_NAMES {
+        let text = format!(in alloc; "-module(a).\n{lines}\n")?;
+        expect(&rt, alloc, text.as_bytes(), 3, NOT_BUILT)?;
+    }
+    Ok(())
+}
+
+/// A function with three bindings, of which two have the same name.
+const NUMBERED: &[u8] =
+    b"-module(a).\n-spec f(a) -> a.\nf(X) -> case X of Y -> [X || X <- Y] end.\n";
+
+#[test]
+fn numbers_variables(rt: HostRuntime) -> Result<(), Fail> {
+    let alloc = rt.alloc();
+    let tokens = lex(alloc, NUMBERED).ok().ok_or("not lexed")?;
+    let tree = parse(alloc, &tokens).ok().ok_or("not parsed")?;
+    let scopes = resolve(alloc, &tree).ok().ok_or("not resolved")?;
+    // The columns of variables in the third line, and their numbers.
+    let numbers = [(3, 0), (14, 0), (19, 1), (25, 2), (30, 2), (35, 1)];
+    for (column, number) in numbers {
+        assert_eq!(rt; scopes.of(Place { line: 3, column }), Some(number));
+    }
+    // The columns of the bindings.
+    for (number, column) in [(0, 3), (1, 19), (2, 30)] {
+        assert_eq!(rt; scopes.place_of(number), Some(Place { line: 3, column }));
+    }
+    assert_eq!(rt; scopes.of(Place { line: 3, column: 1 }), None);
+    assert_eq!(rt; scopes.place_of(3), None);
+    Ok(())
+}
+
 /// `-module(a).` and a line: a text, so many times an opening bracket, `a`, as many closing brackets,
 /// and the rest.
 fn nested(
@@ -333,7 +571,7 @@ const NESTS: [Nest; 4] = [
         (b'{', b'}'),
         ") -> b.\n",
         3,
-        NOT_BUILT,
+        b"not a module: 2:1: no spec\n",
         b"not a module: 2:259: nested too deep\n",
     ),
 ];
@@ -364,7 +602,7 @@ fn with_parameters(alloc: Global, count: usize) -> Result<Vec<u8>, NoMemory> {
 fn limits_the_parameters(rt: HostRuntime) -> Result<(), Fail> {
     let alloc = rt.alloc();
     let most = with_parameters(alloc, 255)?;
-    expect(&rt, alloc, &most, 3, NOT_BUILT)?;
+    expect(&rt, alloc, &most, 3, b"not a module: 2:1: no spec\n")?;
     let more = with_parameters(alloc, 256)?;
     let output = b"not a module: 2:513: out of profile: arity\n";
     expect(&rt, alloc, &more, 3, output)?;
@@ -488,7 +726,9 @@ fn checks_texts(rt: HostRuntime) -> Result<(), Fail> {
     assert!(rt; matches!(&faulty, Err(Refused::Lex(LexFault::OutOfProfile(_, _)))));
     let unexpected = check_text(alloc, b"hello");
     assert!(rt; matches!(&unexpected, Err(Refused::Parse(ParseFault::Unexpected(_)))));
-    let not_built = check_text(alloc, b"-module(a).\nf() -> 1.\n");
+    let wrong_names = check_text(alloc, b"-module(a).\nf() -> 1.\n");
+    assert!(rt; matches!(&wrong_names, Err(Refused::Scope(ScopeFault::NoSpec(_)))));
+    let not_built = check_text(alloc, b"-module(a).\n-spec f() -> 1.\nf() -> (1), 1.\n");
     assert!(rt; matches!(&not_built, Err(Refused::NotBuilt)));
     Ok(())
 }

@@ -2,7 +2,9 @@ ghost use Rattle.std.specs.Prelude.{◌≡◌, ◌≢◌, ◌⊎◌, ◌↔◌, 
 ghost use Rattle.etylizer_program.specs.Outside.{IsHeld, Rose, Puts, PutsBeginning};
 ghost use Rattle.etylizer_program.specs.Commands.{command_of};
 ghost use Rattle.etylizer_program.specs.Report.{report_text};
-ghost use Rattle.etylizer_program.specs.Tool.{AcceptsSafeText, Judges, JudgesFile, JudgesText, BreaksOff, BeginsFileReport, BeginsTextReport, HoldsNamedFile, NamesRightModule, NamesNoModule, NamesNotBuilt, verdict_status};
+ghost use Rattle.etylizer_program.specs.Tool.{AcceptsSafeText, Judges, JudgesFile, JudgesText, BreaksOff, BeginsFileReport, BeginsTextReport, HoldsNamedFile, NamesRightModule, NamesNoModule, NamesNotBuilt, NamesWrongNames, verdict_status};
+ghost use Rattle.etylizer_program.specs.Check.{fault_words};
+ghost use Rattle.scope_rules.specs.declared.fault.PlacedFault.{PlacedFault};
 
 use crate::check::TEXT_LIMIT;
 use crate::command::{Command, command_of};
@@ -23,7 +25,7 @@ const REFUSED: Status = 1;
 
 const USAGE: Status = 2;
 
-/// A text that is too long or no module of the profile, or whose module isn't flat.
+/// A text that is too long or no module of the profile, or whose module has wrong names or isn't flat.
 const NOT_A_MODULE: Status = 3;
 
 const READ_FAULT: Status = 4;
@@ -35,7 +37,7 @@ pub const NO_MEMORY: Status = 6;
 /// Does what the words ask for, and writes one report.
 ///
 /// The words don't have the program's own name. Refusals come in this order: the words, the load, the
-/// text's length, its reading, its types, the put. Want of memory may come in between.
+/// text's length, its reading, its names, its types, the put. Want of memory may come in between.
 pub fn run_tool<F: Files, O: Sink>(
     alloc: Global,
     words: &Vec<String>,
@@ -50,10 +52,12 @@ pub fn run_tool<F: Files, O: Sink>(
 
     // Where the files tell what they hold, and unless the files or the sink fail or memory runs out: a
     // flat module all of whose constraints hold is accepted; a text that is no module, or whose module
-    // is nested too deep, is refused, `judged` says by which words; and a module that isn't flat gets
-    // "not built yet".
+    // is nested too deep, is refused, `judged` says by which words; one whose names are wrong is refused
+    // with the first fault at its place; and a module with right names that isn't flat gets "not built
+    // yet".
     ensures complete { NamesRightModule (map string_bytes words.now.items) (F.held files.old) → (Rose (F.faults files.old) (F.faults files.new) → ⊥) → (Rose (O.faults out.old) (O.faults out.new) → ⊥) → (result ≡ 0) ⊎ (result ≡ 6) }
     ensures no_module { NamesNoModule (map string_bytes words.now.items) (F.held files.old) → (Rose (F.faults files.old) (F.faults files.new) → ⊥) → (Rose (O.faults out.old) (O.faults out.new) → ⊥) → (result ≡ 3) ⊎ (result ≡ 6) }
+    ensures wrong_names { (fault : PlacedFault) → NamesWrongNames (map string_bytes words.now.items) (F.held files.old) fault → (Rose (F.faults files.old) (F.faults files.new) → ⊥) → (Rose (O.faults out.old) (O.faults out.new) → ⊥) → ((result ≡ 3) × Puts (O.written out.old) (O.written out.new) (report_text (Verdict.NotText fault.place (fault_words fault.fault)))) ⊎ (result ≡ 6) }
     ensures not_built { NamesNotBuilt (map string_bytes words.now.items) (F.held files.old) → (Rose (F.faults files.old) (F.faults files.new) → ⊥) → (Rose (O.faults out.old) (O.faults out.new) → ⊥) → ((result ≡ 3) × Puts (O.written out.old) (O.written out.new) (report_text Verdict.NotBuilt)) ⊎ (result ≡ 6) }
 
     // Words that are no command, and no others, are answered with the usage.

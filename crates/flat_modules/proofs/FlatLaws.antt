@@ -7,11 +7,13 @@ use Rattle.erl_tree.specs.Limits.{IsInLimit}
 use Rattle.erl_tree.specs.Functions.{functions_of, function_ids}
 use Rattle.erl_grammar.specs.FormNesting.{IsModuleWithin}
 use Rattle.erl_grammar.specs.Nesting.{nesting_limit}
-use Rattle.erl_runs.specs.Readable.{FunctionCallsOnly, IsReadable}
+use Rattle.readable_modules.specs.Readable.{IsReadable}
+use Rattle.flat_modules.specs.FlatNames.{FunctionCallsOnly, HasRightFlatNames}
 use Rattle.flat_modules.specs.Spelling.{tokens_of}
 use Rattle.flat_modules.specs.Grammar.{IsWellFormed}
 use Rattle.flat_modules.specs.FlatModules.{HasDistinctHeads, IsFlatModule}
 use Rattle.flat_modules.proofs.InProfile.{calls-in-profile}
+use Rattle.flat_modules.proofs.RightFlatNames.{right-flat-names}
 use Rattle.flat_modules.proofs.ModuleLaws.{module-whole, module-tokens, module-passing, module-flat}
 
 -- the integers of some tokens are within the limit
@@ -21,13 +23,17 @@ AreInLimit tokens = Every (λ t. IsInLimit t.token) tokens
 pub flat-formed : (m : Module) → IsFlatModule m → IsWellFormed m
 flat-formed m f = module-flat m f.well_formed f.flat
 
+-- what the right names of a flat module come to
+pub flat-names : (m : Module) → IsFlatModule m → HasRightFlatNames m
+flat-names m f = right-flat-names m (flat-formed m f) f.readable
+
 pub flat-limits : (m : Module) → IsFlatModule m → AreInLimit (tokens_of m)
 flat-limits m f = subst AreInLimit (sym (module-tokens m (flat-formed m f))) f.in_limit
 
 pub flat-module : (m : Module) → IsWellFormed m → IsReadable m → Every HasDistinctHeads (functions_of m) → Every (FunctionCallsOnly (function_ids m)) (functions_of m)
     → IsModuleWithin nesting_limit m → AreInLimit (tokens_of m) → IsFlatModule m
 flat-module m w r heads own within limits = record {
-  well_formed = module-whole m w (calls-in-profile m w r.not_built_in own);
+  well_formed = module-whole m w (calls-in-profile m w (right-flat-names m w r).not_built_in own);
   flat = module-passing m w;
   readable = r;
   distinct_heads = heads;

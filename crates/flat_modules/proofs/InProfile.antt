@@ -20,8 +20,9 @@ use Rattle.erl_tree.specs.declared.form.TreeForm.TheVariants as F
 use Rattle.erl_tree.specs.declared.form.Module.{Module}
 use Rattle.erl_grammar.specs.Guards.{has_arity_second, is_call_in_profile}
 use Rattle.erl_grammar.proofs.Layers.{each}
-use Rattle.erl_runs.specs.Readable.{called_in, called_item_layer, CallsOnly, FunctionCallsOnly, is_built_in}
-use Rattle.erl_runs.proofs.MeaningLaws.{all_called, called_in-Paren, called_in-Binary, called_in-Call}
+use Rattle.erl_runs.specs.Names.{is_built_in}
+use Rattle.flat_modules.specs.FlatNames.{called_in, called_item_layer, CallsOnly, FunctionCallsOnly}
+use Rattle.flat_modules.proofs.FlatNameEquations.{all_called, called_in-Paren, called_in-Binary, called_in-Call}
 use Rattle.flat_modules.specs.Grammar.{IsWellFormed}
 use Rattle.flat_modules.specs.Calls.{StandsIn, whole, in_parens, in_left, in_right, in_argument, item_in_profile, ItemInProfile, ClauseInProfile, FormInProfile, HasCallsInProfile}
 use Rattle.flat_modules.proofs.Lists.{every-so, every-split}

@@ -1,3 +1,4 @@
+pub mod FlatNameEquations
 pub mod TreeLaws
 pub mod GrammarLaws
 pub mod Layers
@@ -11,4 +12,6 @@ pub mod FunctionLaws
 pub mod ModuleLaws
 pub mod SmallExamples
 pub mod InProfile
+pub mod SeenVariables
+pub mod RightFlatNames
 pub mod FlatLaws

@@ -37,6 +37,7 @@ use Rattle.flat_modules.specs.FlatModules.{IsFlatModule}
 use Rattle.flat_modules.specs.SmallModules.{clause_with, function_with, module_with, sum_of_two, module_with_sum, empty_tuple, module_with_tuple, two_atoms, call_outside, module_with_call}
 use Rattle.flat_modules.proofs.Layers.{flat_expr_of, flat_expr-out}
 use Rattle.flat_modules.proofs.ModuleLaws.{module-passing}
+use Rattle.flat_modules.proofs.RightFlatNames.{right-flat-names}
 
 -- ---- a function of an expression
 
@@ -146,7 +147,7 @@ unfolding is_flat specs_of module_tokens
 no-functions = record {
   well_formed = small_module_spelled.well_formed;
   flat = refl;
-  readable = record { specs_read = refl; functions_distinct = tt; not_built_in = tt; specs_distinct = tt; specified = tt; defined = tt; scoped = tt; calls_defined = tt };
+  readable = record { right_names = refl; specs_read = refl; specs_distinct = tt };
   distinct_heads = tt;
   own_calls = tt;
   within = refl;
@@ -155,4 +156,4 @@ no-functions = record {
 
 pub no-spec : IsFlatModule module_with_sum → ⊥
 unfolding specs_of
-no-spec h = h.readable.specified.0
+no-spec h = (right-flat-names module_with_sum sum-flat h.readable).specified.0

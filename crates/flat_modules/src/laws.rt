@@ -10,10 +10,13 @@ ghost use Rattle.erl_grammar.specs.FormGrammar.{IsModule};
 ghost use Rattle.erl_grammar.specs.FormNesting.{IsModuleWithin};
 ghost use Rattle.erl_grammar.specs.FormSpelling.{module_tokens};
 ghost use Rattle.erl_grammar.specs.Nesting.{nesting_limit};
-ghost use Rattle.erl_runs.specs.Readable.{FunctionCallsOnly, IsReadable, is_built_in};
+ghost use Rattle.erl_runs.specs.Names.{is_built_in};
+ghost use Rattle.readable_modules.specs.Readable.{IsReadable};
+ghost use Rattle.flat_modules.specs.FlatNames.{FunctionCallsOnly};
 ghost use Rattle.flat_modules.specs.Calls.{HasCallsInProfile};
 ghost use Rattle.flat_modules.specs.Flat.{is_flat};
 ghost use Rattle.flat_modules.specs.FlatModules.{HasDistinctHeads, IsFlatModule};
+ghost use Rattle.flat_modules.specs.FlatNames.{HasRightFlatNames};
 ghost use Rattle.flat_modules.specs.Grammar.{IsWellFormed};
 ghost use Rattle.flat_modules.specs.Spelling.{tokens_of};
 
@@ -29,6 +32,13 @@ pub fn flat_modules_are_modules()
 /// A well-formed module that passes the test is a well-formed flat module.
 pub fn modules_that_are_flat()
     ensures { (m : Tree) → IsModule m → is_flat m ≡ true → IsWellFormed m }
+{}
+
+/// What right names come to in a well-formed flat module that is readable: no function is defined twice or is built
+/// in, each function has a spec and each spec a function, and each variable that is used is bound in its
+/// clause's head.
+pub fn right_names_of_flat_modules()
+    ensures { (m : Tree) → IsWellFormed m → IsReadable m → HasRightFlatNames m }
 {}
 
 /// In a well-formed flat module whose calls are of its own functions alone, none of which is built in,

@@ -13,7 +13,7 @@ use Rattle.erl_tree.specs.declared.form.TreeForm.{TreeForm}
 use Rattle.erl_tree.specs.declared.form.TreeForm.TheVariants as F
 use Rattle.erl_tree.specs.declared.form.Module.{Module}
 use Rattle.erl_tree.specs.Functions.{FunctionId, of_function, function_id, function_ids, functions_in, spec_clauses_arity}
-use Rattle.erl_runs.specs.Readable.{same_id, is_built_in}
+use Rattle.erl_runs.specs.Names.{same_id, is_built_in}
 use Rattle.erl_runs.specs.Records.{records_of, records_in}
 use Rattle.scope_rules.specs.declared.fault.PlacedFault.{PlacedFault}
 use Rattle.scope_rules.specs.declared.fault.NameFault.TheVariants.{NoSuchFunction, TwoFunctions, NoSpec}

@@ -9,7 +9,7 @@ use Rattle.type_terms.proofs.KeyLaws.{name-is, name-refl}
 use Rattle.erl_tree.specs.declared.form.RecDefKind.{RecDefKind}
 use Rattle.erl_tree.specs.Lists.{Among}
 use Rattle.erl_tree.specs.Functions.{FunctionId, of_function}
-use Rattle.erl_runs.specs.Readable.{same_id}
+use Rattle.erl_runs.specs.Names.{same_id}
 use Rattle.function_table.specs.Table.{Entry, ids, IsFound}
 use Rattle.function_table.proofs.Lookups.{Among-ids}
 use Rattle.scope_rules.specs.ScopeFaults.{is_defined_at}

@@ -13,7 +13,7 @@ use Rattle.erl_tree.specs.declared.form.TreeForm.{TreeForm}
 use Rattle.erl_tree.specs.declared.form.TreeForm.TheVariants as F
 use Rattle.erl_tree.specs.Lists.{Among}
 use Rattle.erl_tree.specs.Functions.{FunctionId, function_id, functions_in}
-use Rattle.erl_runs.specs.Readable.{same_id, is_built_in}
+use Rattle.erl_runs.specs.Names.{same_id, is_built_in}
 use Rattle.erl_runs.specs.Records.{find_record, records_in}
 use Rattle.function_table.specs.Table.{Entry, ids, IsInsertion}
 use Rattle.function_table.proofs.Lookups.{ids-push}

@@ -5,7 +5,7 @@ use Rattle.type_terms.specs.Keys.{Name}
 use Rattle.erl_tree.specs.declared.form.RecDefKind.{RecDefKind}
 use Rattle.erl_tree.specs.declared.form.TreeForm.{TreeForm}
 use Rattle.erl_tree.specs.Functions.{FunctionId}
-use Rattle.erl_runs.specs.Readable.{same_id}
+use Rattle.erl_runs.specs.Names.{same_id}
 use Rattle.erl_runs.specs.Records.{find_record}
 use Rattle.scope_rules.specs.declared.fault.PlacedFault.{PlacedFault}
 use Rattle.scope_rules.specs.ScopeFaults.{form_faults, defined_by}

@@ -17,12 +17,12 @@ use Rattle.erl_tree.specs.declared.form.RecDefKind.{RecDefKind}
 use Rattle.erl_tree.specs.declared.form.RecFieldKind.{RecFieldKind}
 use Rattle.erl_tree.specs.Functions.{functions_of}
 use Rattle.erl_grammar.specs.Guards.{Asks, misfit_in, misfit_layer}
-use Rattle.erl_runs.specs.Value.{Value, atom, named_fun, closure, Environment, no_bindings, throw, Outcome, Run}
+use Rattle.erl_runs.specs.Value.{Value, atom, named_fun, closure, Environment, no_bindings, throw, Outcome, wrong, Run}
 use Rattle.erl_runs.specs.Operations.{elements_of, Association}
 use Rattle.erl_runs.specs.Records as R
 use Rattle.erl_runs.specs.Records.{records_of, find_record, fields_of, have_fields, and_values, given_for, omitted, new_values, default_kind, default_layer}
 use Rattle.erl_runs.specs.Matching.{Match, match_kind, match_layer, match_pattern, match_each, match_next, match_value}
-use Rattle.erl_runs.specs.Running.{Beside, Does, Part, Choice, Applies, Code, plain, part, of, all_of, funs_in, funs_in_choices, field_parts, names_of, behind, run_all, run_body, run_clauses, taken_anew, anew, guard_holds, class_name, then, finally, gives, gives_found, goes_wrong, still_going, with_calls, run_filter, paired, tagged, new_record, run_kind, choice_kind, run_layer, run_item_layer, run_qualifier_layer, run_assoc_layer, run_catch_layer, run_clause_layer, matched, front, environments_of, generated, match_class, match_caught, applies_nothing, funs_in_function, funs_in_functions, numbered, code_of, find_numbered, arity_of, run_function, run_closure, enter, apply_within, apply}
+use Rattle.erl_runs.specs.Running.{Beside, Does, Part, Choice, Applies, Code, plain, part, of, all_of, funs_in, funs_in_choices, field_parts, names_of, behind, run_all, run_body, run_clauses, taken_anew, anew, guard_holds, class_name, then, finally, ends, gives, gives_found, goes_wrong, still_going, with_calls, run_filter, paired, tagged, new_record, run_kind, choice_kind, run_layer, run_item_layer, run_qualifier_layer, run_assoc_layer, run_catch_layer, run_clause_layer, matched, front, environments_of, generated, match_class, match_caught, applies_nothing, funs_in_function, funs_in_functions, numbered, code_of, find_numbered, arity_of, run_function, run_closure, enter, apply_within, apply}
 use Rattle.run_examples.specs.Outcomes.{main, module_of, run_of, outcome_of}
 
 -- ---- folds
@@ -102,19 +102,19 @@ module _ (folds : Folds) where
   new_record_by None tag names vs = None
   new_record_by (Some r) tag names vs = cond (have_fields (fields_of r) names) (tagged tag (new_values_by (fields_of r) (paired names vs))) None
 
-  module _ (records : List RecDefKind) (arity : Value → ℕ) (apply : Applies) where
+  module _ (unbound : Outcome Value) (records : List RecDefKind) (arity : Value → ℕ) (apply : Applies) where
     abbrev expr_layer : Beside E.ExprKind-F → Does
     expr_layer (E.RecNew name tag fields) = plain (funs_in (field_parts fields))
         (λ number environment steps. then (run_all (field_parts fields) number environment steps) (λ vs left. gives_found (new_record_by (find_record records name) tag (names_of fields) vs) left))
-    expr_layer l = run_layer records arity apply l
+    expr_layer l = run_layer unbound records arity apply l
 
     abbrev item_layer : Beside E.ItemKind-F → Part (Value × Environment)
-    item_layer (E.Value e) = run_item_layer records arity apply (E.Value e)
-    item_layer (E.Match p e) = record { funs = (part e).funs; run = λ number environment steps. then ((part e).run number environment steps) (λ v left. matched records arity apply (folds.matches records p.kind v environment) v left) }
+    item_layer (E.Value e) = run_item_layer unbound records arity apply (E.Value e)
+    item_layer (E.Match p e) = record { funs = (part e).funs; run = λ number environment steps. then ((part e).run number environment steps) (λ v left. matched unbound records arity apply (folds.matches records p.kind v environment) v left) }
 
     abbrev environments_by : Node PatternKind → List Value → Environment → List Environment
     environments_by p [] environment = []
-    environments_by p (v ∷ vs) environment = front records arity apply (anew (folds.matches records p.kind v no_bindings) environment) (environments_by p vs environment)
+    environments_by p (v ∷ vs) environment = front unbound records arity apply (anew (folds.matches records p.kind v no_bindings) environment) (environments_by p vs environment)
 
     abbrev generated_by : Node PatternKind → Option (List Value) → Environment → ℕ → Run (List Environment)
     generated_by p None environment steps = goes_wrong steps
@@ -147,7 +147,7 @@ module _ (folds : Folds) where
       expr = λ y. expr_layer (map-ExprKind ExprKind ItemKind QualifierKind AssocKind CatchKind ClauseKind (ExprKind × Does) (ItemKind × Part (Value × Environment)) (QualifierKind × Part (List Environment)) (AssocKind × Part Association) (CatchKind × Choice) (ClauseKind × Choice) (λ y. (y, r.expr y)) (λ y. (y, r.item y)) (λ y. (y, r.qualifier y)) (λ y. (y, r.assoc y)) (λ y. (y, r.caught y)) (λ y. (y, r.clause y)) (out-ExprKind y));
       item = λ y. item_layer (map-ItemKind ExprKind ItemKind QualifierKind AssocKind CatchKind ClauseKind (ExprKind × Does) (ItemKind × Part (Value × Environment)) (QualifierKind × Part (List Environment)) (AssocKind × Part Association) (CatchKind × Choice) (ClauseKind × Choice) (λ y. (y, r.expr y)) (λ y. (y, r.item y)) (λ y. (y, r.qualifier y)) (λ y. (y, r.assoc y)) (λ y. (y, r.caught y)) (λ y. (y, r.clause y)) (out-ItemKind y));
       qualifier = λ y. qualifier_layer (map-QualifierKind ExprKind ItemKind QualifierKind AssocKind CatchKind ClauseKind (ExprKind × Does) (ItemKind × Part (Value × Environment)) (QualifierKind × Part (List Environment)) (AssocKind × Part Association) (CatchKind × Choice) (ClauseKind × Choice) (λ y. (y, r.expr y)) (λ y. (y, r.item y)) (λ y. (y, r.qualifier y)) (λ y. (y, r.assoc y)) (λ y. (y, r.caught y)) (λ y. (y, r.clause y)) (out-QualifierKind y));
-      assoc = λ y. run_assoc_layer records arity apply (map-AssocKind ExprKind ItemKind QualifierKind AssocKind CatchKind ClauseKind (ExprKind × Does) (ItemKind × Part (Value × Environment)) (QualifierKind × Part (List Environment)) (AssocKind × Part Association) (CatchKind × Choice) (ClauseKind × Choice) (λ y. (y, r.expr y)) (λ y. (y, r.item y)) (λ y. (y, r.qualifier y)) (λ y. (y, r.assoc y)) (λ y. (y, r.caught y)) (λ y. (y, r.clause y)) (out-AssocKind y));
+      assoc = λ y. run_assoc_layer unbound records arity apply (map-AssocKind ExprKind ItemKind QualifierKind AssocKind CatchKind ClauseKind (ExprKind × Does) (ItemKind × Part (Value × Environment)) (QualifierKind × Part (List Environment)) (AssocKind × Part Association) (CatchKind × Choice) (ClauseKind × Choice) (λ y. (y, r.expr y)) (λ y. (y, r.item y)) (λ y. (y, r.qualifier y)) (λ y. (y, r.assoc y)) (λ y. (y, r.caught y)) (λ y. (y, r.clause y)) (out-AssocKind y));
       caught = λ y. catch_layer (map-CatchKind ExprKind ItemKind QualifierKind AssocKind CatchKind ClauseKind (ExprKind × Does) (ItemKind × Part (Value × Environment)) (QualifierKind × Part (List Environment)) (AssocKind × Part Association) (CatchKind × Choice) (ClauseKind × Choice) (λ y. (y, r.expr y)) (λ y. (y, r.item y)) (λ y. (y, r.qualifier y)) (λ y. (y, r.assoc y)) (λ y. (y, r.caught y)) (λ y. (y, r.clause y)) (out-CatchKind y));
       clause = λ y. clause_layer (map-ClauseKind ExprKind ItemKind QualifierKind AssocKind CatchKind ClauseKind (ExprKind × Does) (ItemKind × Part (Value × Environment)) (QualifierKind × Part (List Environment)) (AssocKind × Part Association) (CatchKind × Choice) (ClauseKind × Choice) (λ y. (y, r.expr y)) (λ y. (y, r.item y)) (λ y. (y, r.qualifier y)) (λ y. (y, r.assoc y)) (λ y. (y, r.caught y)) (λ y. (y, r.clause y)) (out-ClauseKind y));
     }
@@ -166,124 +166,124 @@ new-record : (r : Option RecDefKind) (tag : Name) (names : List Name) (vs : List
 new-record None tag names vs = refl
 new-record (Some r) tag names vs = λ j. cond (have_fields (fields_of r) names) (tagged tag (new-values (fields_of r) (paired names vs) j)) None
 
-module _ (records : List RecDefKind) (arity : Value → ℕ) (apply : Applies) where
-  expr-layer : (l : Beside E.ExprKind-F) → expr_layer true_folds records arity apply l ≡ run_layer records arity apply l
+module _ (unbound : Outcome Value) (records : List RecDefKind) (arity : Value → ℕ) (apply : Applies) where
+  expr-layer : (l : Beside E.ExprKind-F) → expr_layer true_folds unbound records arity apply l ≡ run_layer unbound records arity apply l
   expr-layer (E.RecNew name tag fields) = λ j. plain (funs_in (field_parts fields))
       (λ number environment steps. then (run_all (field_parts fields) number environment steps) (λ vs left. gives_found (new-record (find_record records name) tag (names_of fields) vs j) left))
   expr-layer l = refl
 
-  item-layer : (l : Beside E.ItemKind-F) → item_layer true_folds records arity apply l ≡ run_item_layer records arity apply l
+  item-layer : (l : Beside E.ItemKind-F) → item_layer true_folds unbound records arity apply l ≡ run_item_layer unbound records arity apply l
   item-layer (E.Value e) = refl
   item-layer (E.Match p e) = refl
 
-  environments : (p : Node PatternKind) (vs : List Value) (environment : Environment) → environments_by true_folds records arity apply p vs environment ≡ environments_of records arity apply p vs environment
+  environments : (p : Node PatternKind) (vs : List Value) (environment : Environment) → environments_by true_folds unbound records arity apply p vs environment ≡ environments_of unbound records arity apply p vs environment
   environments p [] environment = refl
-  environments p (v ∷ vs) environment = λ j. front records arity apply (anew (match_pattern records p v no_bindings) environment) (environments p vs environment j)
+  environments p (v ∷ vs) environment = λ j. front unbound records arity apply (anew (match_pattern records p v no_bindings) environment) (environments p vs environment j)
 
-  generated-same : (p : Node PatternKind) (vs : Option (List Value)) (environment : Environment) (steps : ℕ) → generated_by true_folds records arity apply p vs environment steps ≡ generated records arity apply p vs environment steps
+  generated-same : (p : Node PatternKind) (vs : Option (List Value)) (environment : Environment) (steps : ℕ) → generated_by true_folds unbound records arity apply p vs environment steps ≡ generated unbound records arity apply p vs environment steps
   generated-same p None environment steps = refl
   generated-same p (Some vs) environment steps = λ j. gives (environments p vs environment j) steps
 
-  qualifier-layer : (l : Beside E.QualifierKind-F) → qualifier_layer true_folds records arity apply l ≡ run_qualifier_layer records arity apply l
+  qualifier-layer : (l : Beside E.QualifierKind-F) → qualifier_layer true_folds unbound records arity apply l ≡ run_qualifier_layer unbound records arity apply l
   qualifier-layer (E.Generator p e) = λ j. record { funs = (part e).funs; run = λ number environment steps. then ((part e).run number environment steps) (λ v left. generated-same p (elements_of v) environment left j) }
   qualifier-layer (E.Filter e) = refl
 
-  class-same : (class : Option (Node PatternKind)) (v : Value) (environment : Environment) → class_by true_folds records arity apply class v environment ≡ match_class records arity apply class v environment
+  class-same : (class : Option (Node PatternKind)) (v : Value) (environment : Environment) → class_by true_folds unbound records arity apply class v environment ≡ match_class unbound records arity apply class v environment
   class-same None v environment = refl
   class-same (Some p) v environment = refl
 
-  caught-same : (class : Option (Node PatternKind)) (c : Choice) (vs : List Value) (environment : Environment) → caught_by true_folds records arity apply class c vs environment ≡ match_caught records arity apply class c vs environment
+  caught-same : (class : Option (Node PatternKind)) (c : Choice) (vs : List Value) (environment : Environment) → caught_by true_folds unbound records arity apply class c vs environment ≡ match_caught unbound records arity apply class c vs environment
   caught-same class c [] environment = refl
   caught-same class c (v ∷ vs) environment = λ j. match_next (class-same class v environment j) (c.matches vs)
 
-  catch-layer : (l : Beside E.CatchKind-F) → catch_layer true_folds records arity apply l ≡ run_catch_layer records arity apply l
+  catch-layer : (l : Beside E.CatchKind-F) → catch_layer true_folds unbound records arity apply l ≡ run_catch_layer unbound records arity apply l
   catch-layer c = λ j. record { funs = (of c.clause).funs; matches = λ vs environment. caught-same c.class (of c.clause) vs environment j; allows = (of c.clause).allows; run = (of c.clause).run }
 
   -- what the definitions say that each kind of node does
   abbrev true_readers : Readers
   true_readers = record {
-    expr = run_kind records arity apply;
-    item = λ y. para-ItemKind Does (Part (Value × Environment)) (Part (List Environment)) (Part Association) Choice Choice (run_layer records arity apply) (run_item_layer records arity apply) (run_qualifier_layer records arity apply) (run_assoc_layer records arity apply) (run_catch_layer records arity apply) (run_clause_layer records arity apply) y;
-    qualifier = λ y. para-QualifierKind Does (Part (Value × Environment)) (Part (List Environment)) (Part Association) Choice Choice (run_layer records arity apply) (run_item_layer records arity apply) (run_qualifier_layer records arity apply) (run_assoc_layer records arity apply) (run_catch_layer records arity apply) (run_clause_layer records arity apply) y;
-    assoc = λ y. para-AssocKind Does (Part (Value × Environment)) (Part (List Environment)) (Part Association) Choice Choice (run_layer records arity apply) (run_item_layer records arity apply) (run_qualifier_layer records arity apply) (run_assoc_layer records arity apply) (run_catch_layer records arity apply) (run_clause_layer records arity apply) y;
-    caught = λ y. para-CatchKind Does (Part (Value × Environment)) (Part (List Environment)) (Part Association) Choice Choice (run_layer records arity apply) (run_item_layer records arity apply) (run_qualifier_layer records arity apply) (run_assoc_layer records arity apply) (run_catch_layer records arity apply) (run_clause_layer records arity apply) y;
-    clause = choice_kind records arity apply;
+    expr = run_kind unbound records arity apply;
+    item = λ y. para-ItemKind Does (Part (Value × Environment)) (Part (List Environment)) (Part Association) Choice Choice (run_layer unbound records arity apply) (run_item_layer unbound records arity apply) (run_qualifier_layer unbound records arity apply) (run_assoc_layer unbound records arity apply) (run_catch_layer unbound records arity apply) (run_clause_layer unbound records arity apply) y;
+    qualifier = λ y. para-QualifierKind Does (Part (Value × Environment)) (Part (List Environment)) (Part Association) Choice Choice (run_layer unbound records arity apply) (run_item_layer unbound records arity apply) (run_qualifier_layer unbound records arity apply) (run_assoc_layer unbound records arity apply) (run_catch_layer unbound records arity apply) (run_clause_layer unbound records arity apply) y;
+    assoc = λ y. para-AssocKind Does (Part (Value × Environment)) (Part (List Environment)) (Part Association) Choice Choice (run_layer unbound records arity apply) (run_item_layer unbound records arity apply) (run_qualifier_layer unbound records arity apply) (run_assoc_layer unbound records arity apply) (run_catch_layer unbound records arity apply) (run_clause_layer unbound records arity apply) y;
+    caught = λ y. para-CatchKind Does (Part (Value × Environment)) (Part (List Environment)) (Part Association) Choice Choice (run_layer unbound records arity apply) (run_item_layer unbound records arity apply) (run_qualifier_layer unbound records arity apply) (run_assoc_layer unbound records arity apply) (run_catch_layer unbound records arity apply) (run_clause_layer unbound records arity apply) y;
+    clause = choice_kind unbound records arity apply;
   }
 
-  expr-real : (y : ExprKind) → (next true_folds records arity apply true_readers).expr y ≡ true_readers.expr y
+  expr-real : (y : ExprKind) → (next true_folds unbound records arity apply true_readers).expr y ≡ true_readers.expr y
   unfolding next run_kind choice_kind
   expr-real y =
       expr-layer (map-ExprKind ExprKind ItemKind QualifierKind AssocKind CatchKind ClauseKind (ExprKind × Does) (ItemKind × Part (Value × Environment)) (QualifierKind × Part (List Environment)) (AssocKind × Part Association) (CatchKind × Choice) (ClauseKind × Choice) (λ y. (y, true_readers.expr y)) (λ y. (y, true_readers.item y)) (λ y. (y, true_readers.qualifier y)) (λ y. (y, true_readers.assoc y)) (λ y. (y, true_readers.caught y)) (λ y. (y, true_readers.clause y)) (out-ExprKind y))
-      ∙ (sym (para-roll-ExprKind Does (Part (Value × Environment)) (Part (List Environment)) (Part Association) Choice Choice (run_layer records arity apply) (run_item_layer records arity apply) (run_qualifier_layer records arity apply) (run_assoc_layer records arity apply) (run_catch_layer records arity apply) (run_clause_layer records arity apply) (out-ExprKind y))
+      ∙ (sym (para-roll-ExprKind Does (Part (Value × Environment)) (Part (List Environment)) (Part Association) Choice Choice (run_layer unbound records arity apply) (run_item_layer unbound records arity apply) (run_qualifier_layer unbound records arity apply) (run_assoc_layer unbound records arity apply) (run_catch_layer unbound records arity apply) (run_clause_layer unbound records arity apply) (out-ExprKind y))
       ∙ ap true_readers.expr (roll-out-ExprKind y))
 
-  item-real : (y : ItemKind) → (next true_folds records arity apply true_readers).item y ≡ true_readers.item y
+  item-real : (y : ItemKind) → (next true_folds unbound records arity apply true_readers).item y ≡ true_readers.item y
   unfolding next run_kind choice_kind
   item-real y =
       item-layer (map-ItemKind ExprKind ItemKind QualifierKind AssocKind CatchKind ClauseKind (ExprKind × Does) (ItemKind × Part (Value × Environment)) (QualifierKind × Part (List Environment)) (AssocKind × Part Association) (CatchKind × Choice) (ClauseKind × Choice) (λ y. (y, true_readers.expr y)) (λ y. (y, true_readers.item y)) (λ y. (y, true_readers.qualifier y)) (λ y. (y, true_readers.assoc y)) (λ y. (y, true_readers.caught y)) (λ y. (y, true_readers.clause y)) (out-ItemKind y))
-      ∙ (sym (para-roll-ItemKind Does (Part (Value × Environment)) (Part (List Environment)) (Part Association) Choice Choice (run_layer records arity apply) (run_item_layer records arity apply) (run_qualifier_layer records arity apply) (run_assoc_layer records arity apply) (run_catch_layer records arity apply) (run_clause_layer records arity apply) (out-ItemKind y))
+      ∙ (sym (para-roll-ItemKind Does (Part (Value × Environment)) (Part (List Environment)) (Part Association) Choice Choice (run_layer unbound records arity apply) (run_item_layer unbound records arity apply) (run_qualifier_layer unbound records arity apply) (run_assoc_layer unbound records arity apply) (run_catch_layer unbound records arity apply) (run_clause_layer unbound records arity apply) (out-ItemKind y))
       ∙ ap true_readers.item (roll-out-ItemKind y))
 
-  qualifier-real : (y : QualifierKind) → (next true_folds records arity apply true_readers).qualifier y ≡ true_readers.qualifier y
+  qualifier-real : (y : QualifierKind) → (next true_folds unbound records arity apply true_readers).qualifier y ≡ true_readers.qualifier y
   unfolding next run_kind choice_kind
   qualifier-real y =
       qualifier-layer (map-QualifierKind ExprKind ItemKind QualifierKind AssocKind CatchKind ClauseKind (ExprKind × Does) (ItemKind × Part (Value × Environment)) (QualifierKind × Part (List Environment)) (AssocKind × Part Association) (CatchKind × Choice) (ClauseKind × Choice) (λ y. (y, true_readers.expr y)) (λ y. (y, true_readers.item y)) (λ y. (y, true_readers.qualifier y)) (λ y. (y, true_readers.assoc y)) (λ y. (y, true_readers.caught y)) (λ y. (y, true_readers.clause y)) (out-QualifierKind y))
-      ∙ (sym (para-roll-QualifierKind Does (Part (Value × Environment)) (Part (List Environment)) (Part Association) Choice Choice (run_layer records arity apply) (run_item_layer records arity apply) (run_qualifier_layer records arity apply) (run_assoc_layer records arity apply) (run_catch_layer records arity apply) (run_clause_layer records arity apply) (out-QualifierKind y))
+      ∙ (sym (para-roll-QualifierKind Does (Part (Value × Environment)) (Part (List Environment)) (Part Association) Choice Choice (run_layer unbound records arity apply) (run_item_layer unbound records arity apply) (run_qualifier_layer unbound records arity apply) (run_assoc_layer unbound records arity apply) (run_catch_layer unbound records arity apply) (run_clause_layer unbound records arity apply) (out-QualifierKind y))
       ∙ ap true_readers.qualifier (roll-out-QualifierKind y))
 
-  assoc-real : (y : AssocKind) → (next true_folds records arity apply true_readers).assoc y ≡ true_readers.assoc y
+  assoc-real : (y : AssocKind) → (next true_folds unbound records arity apply true_readers).assoc y ≡ true_readers.assoc y
   unfolding next run_kind choice_kind
   assoc-real y =
       refl
-      ∙ (sym (para-roll-AssocKind Does (Part (Value × Environment)) (Part (List Environment)) (Part Association) Choice Choice (run_layer records arity apply) (run_item_layer records arity apply) (run_qualifier_layer records arity apply) (run_assoc_layer records arity apply) (run_catch_layer records arity apply) (run_clause_layer records arity apply) (out-AssocKind y))
+      ∙ (sym (para-roll-AssocKind Does (Part (Value × Environment)) (Part (List Environment)) (Part Association) Choice Choice (run_layer unbound records arity apply) (run_item_layer unbound records arity apply) (run_qualifier_layer unbound records arity apply) (run_assoc_layer unbound records arity apply) (run_catch_layer unbound records arity apply) (run_clause_layer unbound records arity apply) (out-AssocKind y))
       ∙ ap true_readers.assoc (roll-out-AssocKind y))
 
-  caught-real : (y : CatchKind) → (next true_folds records arity apply true_readers).caught y ≡ true_readers.caught y
+  caught-real : (y : CatchKind) → (next true_folds unbound records arity apply true_readers).caught y ≡ true_readers.caught y
   unfolding next run_kind choice_kind
   caught-real y =
       catch-layer (map-CatchKind ExprKind ItemKind QualifierKind AssocKind CatchKind ClauseKind (ExprKind × Does) (ItemKind × Part (Value × Environment)) (QualifierKind × Part (List Environment)) (AssocKind × Part Association) (CatchKind × Choice) (ClauseKind × Choice) (λ y. (y, true_readers.expr y)) (λ y. (y, true_readers.item y)) (λ y. (y, true_readers.qualifier y)) (λ y. (y, true_readers.assoc y)) (λ y. (y, true_readers.caught y)) (λ y. (y, true_readers.clause y)) (out-CatchKind y))
-      ∙ (sym (para-roll-CatchKind Does (Part (Value × Environment)) (Part (List Environment)) (Part Association) Choice Choice (run_layer records arity apply) (run_item_layer records arity apply) (run_qualifier_layer records arity apply) (run_assoc_layer records arity apply) (run_catch_layer records arity apply) (run_clause_layer records arity apply) (out-CatchKind y))
+      ∙ (sym (para-roll-CatchKind Does (Part (Value × Environment)) (Part (List Environment)) (Part Association) Choice Choice (run_layer unbound records arity apply) (run_item_layer unbound records arity apply) (run_qualifier_layer unbound records arity apply) (run_assoc_layer unbound records arity apply) (run_catch_layer unbound records arity apply) (run_clause_layer unbound records arity apply) (out-CatchKind y))
       ∙ ap true_readers.caught (roll-out-CatchKind y))
 
-  clause-real : (y : ClauseKind) → (next true_folds records arity apply true_readers).clause y ≡ true_readers.clause y
+  clause-real : (y : ClauseKind) → (next true_folds unbound records arity apply true_readers).clause y ≡ true_readers.clause y
   unfolding next run_kind choice_kind
   clause-real y =
       refl
-      ∙ (sym (para-roll-ClauseKind Does (Part (Value × Environment)) (Part (List Environment)) (Part Association) Choice Choice (run_layer records arity apply) (run_item_layer records arity apply) (run_qualifier_layer records arity apply) (run_assoc_layer records arity apply) (run_catch_layer records arity apply) (run_clause_layer records arity apply) (out-ClauseKind y))
+      ∙ (sym (para-roll-ClauseKind Does (Part (Value × Environment)) (Part (List Environment)) (Part Association) Choice Choice (run_layer unbound records arity apply) (run_item_layer unbound records arity apply) (run_qualifier_layer unbound records arity apply) (run_assoc_layer unbound records arity apply) (run_catch_layer unbound records arity apply) (run_clause_layer unbound records arity apply) (out-ClauseKind y))
       ∙ ap true_readers.clause (roll-out-ClauseKind y))
 
-  next-real : next true_folds records arity apply true_readers ≡ true_readers
+  next-real : next true_folds unbound records arity apply true_readers ≡ true_readers
   next-real j = record { expr = λ y. expr-real y j; item = λ y. item-real y j; qualifier = λ y. qualifier-real y j; assoc = λ y. assoc-real y j; caught = λ y. caught-real y j; clause = λ y. clause-real y j }
 
   -- so many levels of a tree by computing
   unfoldable levels : Folds → ℕ → Readers
   levels folds zero = true_readers
-  levels folds (suc k) = next folds records arity apply (levels folds k)
+  levels folds (suc k) = next folds unbound records arity apply (levels folds k)
 
   levels-real : (k : ℕ) → levels true_folds k ≡ true_readers
   unfolding levels
   levels-real zero = refl
-  levels-real (suc k) = ap (next true_folds records arity apply) (levels-real k) ∙ next-real
+  levels-real (suc k) = ap (next true_folds unbound records arity apply) (levels-real k) ∙ next-real
 
 -- ---- programs
 
 -- what each kind of node does in a program
 abbrev Programs : Type 0
-Programs = List RecDefKind → (Value → ℕ) → Applies → Readers
+Programs = Outcome Value → List RecDefKind → (Value → ℕ) → Applies → Readers
 
 unfoldable of_levels : ℕ → Programs
-of_levels k = λ records arity apply. levels records arity apply (folds_of k) k
+of_levels k = λ unbound records arity apply. levels unbound records arity apply (folds_of k) k
 
 of-levels : (k : ℕ) → of_levels k ≡ true_readers
 unfolding of_levels
-of-levels k = (λ j records arity apply. levels records arity apply (folds-of k j) k) ∙ (λ j records arity apply. levels-real records arity apply k j)
+of-levels k = (λ j unbound records arity apply. levels unbound records arity apply (folds-of k j) k) ∙ (λ j unbound records arity apply. levels-real unbound records arity apply k j)
 
 module _ (readers : Programs) where
-  abbrev choices_by : List RecDefKind → (Value → ℕ) → Applies → List (Node ClauseKind) → List Choice
-  choices_by records arity apply cs = map (λ c. (readers records arity apply).clause c.kind) cs
+  abbrev choices_by : Outcome Value → List RecDefKind → (Value → ℕ) → Applies → List (Node ClauseKind) → List Choice
+  choices_by unbound records arity apply cs = map (λ c. (readers unbound records arity apply).clause c.kind) cs
 
   abbrev funs_by : Function → List (Node ExprKind)
-  funs_by f = funs_in_choices (choices_by [] (λ v. 0) applies_nothing f.clauses)
+  funs_by f = funs_in_choices (choices_by wrong [] (λ v. 0) applies_nothing f.clauses)
 
   abbrev all_funs_by : List Function → List (Node ExprKind)
   all_funs_by [] = []
@@ -294,15 +294,15 @@ module _ (readers : Programs) where
   numbered_by (f ∷ fs) number = (f, number) ∷ numbered_by fs (behind number (funs_by f))
 
   abbrev code_by : Module → Code
-  code_by m = record { records = records_of m; functions = numbered_by (functions_of m) 0; funs = all_funs_by (functions_of m) ++ [] }
+  code_by m = record { unbound = wrong; records = records_of m; functions = numbered_by (functions_of m) 0; funs = all_funs_by (functions_of m) ++ [] }
 
   abbrev run_function_by : Code → Applies → Option (Function × ℕ) → List Value → ℕ → Run Value
-  run_function_by code apply None args steps = goes_wrong steps
-  run_function_by code apply (Some f) args steps = run_clauses taken_anew (choices_by code.records (arity_of code) apply f.0.clauses) f.1 no_bindings args steps
+  run_function_by code apply None args steps = ends code.unbound steps
+  run_function_by code apply (Some f) args steps = run_clauses taken_anew (choices_by code.unbound code.records (arity_of code) apply f.0.clauses) f.1 no_bindings args steps
 
   abbrev run_closure_by : Code → Applies → Option (Node ExprKind) → ℕ → Environment → List Value → ℕ → Run Value
   run_closure_by code apply None number environment args steps = goes_wrong steps
-  run_closure_by code apply (Some e) number environment args steps = ((readers code.records (arity_of code) apply).expr e.kind).enter (suc number) environment args steps
+  run_closure_by code apply (Some e) number environment args steps = ((readers code.unbound code.records (arity_of code) apply).expr e.kind).enter (suc number) environment args steps
 
   abbrev enter_by : Code → Applies → Value → List Value → ℕ → Run Value
   enter_by code apply (named_fun name arity) args steps =
@@ -324,7 +324,7 @@ all-funs-same [] = refl
 all-funs-same (f ∷ fs) = λ j. funs_in_function f ++ all-funs-same fs j
 
 code-same : (m : Module) → code_by true_readers m ≡ code_of m []
-code-same m j = record { records = records_of m; functions = numbered-same (functions_of m) 0 j; funs = all-funs-same (functions_of m) j ++ [] }
+code-same m j = record { unbound = wrong; records = records_of m; functions = numbered-same (functions_of m) 0 j; funs = all-funs-same (functions_of m) j ++ [] }
 
 function-same : (code : Code) (apply : Applies) (f : Option (Function × ℕ)) (args : List Value) (steps : ℕ) → run_function_by true_readers code apply f args steps ≡ run_function code apply f args steps
 function-same code apply None args steps = refl

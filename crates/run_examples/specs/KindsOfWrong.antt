@@ -1,4 +1,4 @@
--- Each cause of the outcome `wrong`, by an example: what stands in the comment goes wrong. Where a group has the expression already, its statement is cited by its number in expressions.txt; the others stand here in full, most of which don't compile in Erlang. Records and functions are those of the group `own_outcomes`.
+-- Each cause of the outcome `wrong` that there is in modules of the profile, by an example: what stands in the comment goes wrong. Where a group has the expression already, its statement is cited by its number in expressions.txt; the others stand here in full, most of which don't compile in Erlang. Records and functions are those of the group `own_outcomes`.
 use Rattle.std.specs.Prelude.{◌≡◌, [], ◌∷◌, codes}
 use Rattle.erl_tree.specs.declared.expr.UnaryOp.TheVariants as U
 use Rattle.erl_tree.specs.declared.expr.BinaryOp.TheVariants as B

@@ -71,7 +71,7 @@ at_minus m v = (IntKey (neg_ℤ (pos m)), v)
 abbrev pub at_atom : Name → Value → Key × Value
 at_atom a v = (AtomKey a, v)
 
--- a map, of its entries put in one after another
+-- a map, of its entries put in from the last to the first
 abbrev pub map_with : List (Key × Value) → Value
 map_with entries = V.map_of (all_entries entries)
   where

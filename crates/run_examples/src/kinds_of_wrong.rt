@@ -1,4 +1,4 @@
-//! Each cause of the outcome `wrong`, by an example with its name.
+//! Each cause of the outcome `wrong` that there is in modules of the profile, by an example with its name.
 
 ghost use Rattle.run_examples.specs.KindsOfWrong.{
   no_clause_of_a_function,

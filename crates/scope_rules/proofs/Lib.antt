@@ -1,5 +1,5 @@
 pub mod OccurrenceLaws
 pub mod FaultLaws
 pub mod OccurrenceLists
-mod ScopeExamples
+pub mod SeenMarks
 pub mod EarliestLaws

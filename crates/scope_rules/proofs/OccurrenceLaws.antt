@@ -22,7 +22,7 @@ use Rattle.erl_tree.specs.declared.expr.QualifierKind.TheVariants as Q
 use Rattle.erl_tree.specs.declared.expr.AssocKind.{AssocKind, out-AssocKind, roll-AssocKind, out-roll-AssocKind, fold_out-AssocKind}
 use Rattle.erl_tree.specs.declared.expr.CatchKind.{CatchKind, out-CatchKind, roll-CatchKind, out-roll-CatchKind, fold_out-CatchKind}
 use Rattle.erl_tree.specs.declared.expr.ClauseKind.{ClauseKind, out-ClauseKind, roll-ClauseKind, out-roll-ClauseKind, map-ClauseKind, fold_out-ClauseKind}
-use Rattle.erl_runs.specs.Readable.{is_wildcard}
+use Rattle.erl_runs.specs.Names.{is_wildcard}
 use Rattle.scope_rules.specs.declared.role.Role.{Role}
 use Rattle.scope_rules.specs.declared.role.Role.TheVariants.{Met, Renewed}
 use Rattle.scope_rules.specs.Occurrences.{Part, no_part, in_turn, side_by_side, closed, optional, Variables, variables_of_each, variables_of_node, variables_of_optional, variables_layer, pattern_kind_variables, variables_of, row, row_marks, Expression, part, Step, Clause, Body, body, whole, clause_from, comprehension, use_at, expr_layer, item_layer, qualifier_layer, assoc_layer, guard_part, clause_layer, class_patterns, catch_layer, expr_kind_part, item_kind_step, qualifier_kind_step, assoc_kind_part, catch_kind_clause, clause_kind_part, expr_part, item_step, qualifier_step, assoc_part, field_part, clause_part, catch_part}

@@ -3,4 +3,3 @@ pub mod Bindings
 pub mod ScopeFaults
 pub mod Resolution
 pub mod Earliest
-pub mod SmallScopes

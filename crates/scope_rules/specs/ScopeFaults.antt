@@ -21,7 +21,7 @@ use Rattle.erl_tree.specs.declared.form.TreeForm.TheVariants as F
 use Rattle.erl_tree.specs.declared.form.Module.{Module}
 use Rattle.erl_tree.specs.Lists.{Among, Every}
 use Rattle.erl_tree.specs.Functions.{FunctionId, of_function, function_id, function_ids, spec_clauses_arity}
-use Rattle.erl_runs.specs.Readable.{same_id, is_built_in}
+use Rattle.erl_runs.specs.Names.{same_id, is_built_in}
 use Rattle.erl_runs.specs.Records.{find_record, fields_of, has_field, records_of}
 use Rattle.scope_rules.specs.declared.fault.NameFault.{NameFault}
 use Rattle.scope_rules.specs.declared.fault.NameFault.TheVariants.{Unbound, Unsafe, NoSuchFunction, TwoFunctions, NoSpec, NoSuchRecord, NoSuchField, Repeated, ArityDiffers}

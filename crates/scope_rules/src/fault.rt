@@ -1,3 +1,6 @@
+ghost use Rattle.std.specs.Prelude.{◌≡◌};
+ghost use Rattle.scope_rules.specs.ScopeFaults as faults;
+
 use erl_tree::Place;
 
 /// What is wrong with a name. Of two faults at one place the one that is named first here is answered.
@@ -30,4 +33,36 @@ pub enum NameFault {
 pub struct PlacedFault {
     pub place: Place,
     pub fault: NameFault,
+}
+
+fn is_before(place: Place, other: Place) -> bool
+    ensures { result ≡ faults.is_before place other }
+{
+    place.line < other.line || (place.line == other.line && place.column < other.column)
+}
+
+/// The order of faults at one place.
+fn rank(fault: NameFault) -> u8
+    ensures { result ≡ faults.rank fault }
+{
+    match fault {
+        NameFault::Unbound => 0,
+        NameFault::Unsafe => 1,
+        NameFault::NoSuchFunction => 2,
+        NameFault::TwoFunctions => 3,
+        NameFault::NoSpec => 4,
+        NameFault::NoSuchRecord => 5,
+        NameFault::NoSuchField => 6,
+        NameFault::Repeated => 7,
+        NameFault::ArityDiffers => 8,
+    }
+}
+
+/// Whether a fault is named before another: it stands before it in the text, or at the same place and
+/// before it in the order of `NameFault`.
+pub fn is_earlier(fault: PlacedFault, other: PlacedFault) -> bool
+    ensures { result ≡ faults.is_earlier fault other }
+{
+    is_before(fault.place, other.place)
+        || (!is_before(other.place, fault.place) && rank(fault.fault) < rank(other.fault))
 }

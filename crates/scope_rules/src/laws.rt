@@ -1,12 +1,13 @@
 //! Laws of the rules of names, each the contract of a function that does nothing: what stands behind a part of the text sees
 //! what its place sees, and which fault is the first.
 
-ghost use Rattle.std.specs.Prelude.{◌≡◌, ◌++◌, List, [], Option, Some, None, false};
+ghost use Rattle.std.specs.Prelude.{◌≡◌, ◌++◌, List, [], ◌∷◌, Option, Some, None, false};
 ghost use Rattle.type_terms.specs.Keys.{Name};
 ghost use Rattle.erl_tree.specs.declared.token.Place.{Place};
+ghost use Rattle.erl_tree.specs.declared.form.Module.{Module};
 ghost use Rattle.scope_rules.specs.declared.role.Role.{Role};
-ghost use Rattle.scope_rules.specs.Occurrences.{Mark, Occurrence, seeing, behind, row_behind, marks_behind};
-ghost use Rattle.scope_rules.specs.Bindings.{bindings_in};
+ghost use Rattle.scope_rules.specs.Occurrences.{Mark, Occurrence, seeing, behind, row_behind, marks_behind, occurrences_of};
+ghost use Rattle.scope_rules.specs.Bindings.{binding_of, bindings_in, bindings_of};
 ghost use Rattle.erl_tree.specs.Lists.{Among, Every};
 ghost use Rattle.scope_rules.specs.declared.fault.PlacedFault.{PlacedFault as Fault};
 ghost use Rattle.scope_rules.specs.ScopeFaults.{is_earlier};
@@ -29,6 +30,14 @@ pub fn rows_in_turn()
     ensures marks { (role : Role) (before : List Mark) (vs ws : List (Name × Place)) →
         marks_behind role before (vs ++ ws) ≡ marks_behind role (marks_behind role before vs) ws }
     ensures bindings { (os ps : List Occurrence) → bindings_in (os ++ ps) ≡ bindings_in os ++ bindings_in ps }
+{}
+
+/// Among the variables that an occurrence sees, those behind each are the ones that this one sees itself, where it stands. So what
+/// an occurrence has as its binding is one of the module's bindings, and has a number.
+pub fn what_is_seen_behind_a_variable()
+    ensures behind { (m : Module) (o : Occurrence) → Among o (occurrences_of m) → (before : List Mark) (mark : Mark) (outer : List Mark) → o.sees ≡ before ++ mark ∷ outer →
+        (p : Occurrence) × Among p (occurrences_of m) × (p.mark ≡ mark) × (p.sees ≡ outer) }
+    ensures binding { (m : Module) (o : Occurrence) (b : Mark) → Among o (occurrences_of m) → binding_of o ≡ Some b → Among b (bindings_of m) }
 {}
 
 /// The first of some faults and of others behind them is found in two steps.

@@ -2,3 +2,5 @@ pub mod Places
 pub mod Keys
 pub mod Steps
 pub mod OfModules
+pub mod StandingNumbers
+mod TableExamples

@@ -2,6 +2,7 @@
 //! the binding with a number stands.
 #![tactic(auto)]
 
+pub mod examples;
 pub mod laws;
 mod place_numbers;
 mod scopes;

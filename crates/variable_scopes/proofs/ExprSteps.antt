@@ -19,12 +19,12 @@ use Rattle.erl_tree.specs.declared.expr.CatchKind.{CatchKind, out-CatchKind}
 use Rattle.erl_tree.specs.declared.expr.ClauseKind.{ClauseKind, out-ClauseKind}
 use Rattle.scope_rules.specs.declared.role.Role.{Role}
 use Rattle.scope_rules.specs.declared.role.Role.TheVariants.{Met, Renewed}
-use Rattle.scope_rules.specs.Occurrences.{Mark, names_of, Occurrence, Part, no_part, seeing, behind, in_turn, side_by_side, optional, row, row_marks, Step, Body, body, generated, use_at, clause_from, class_patterns, expr_kind_part, clause_kind_part}
+use Rattle.scope_rules.specs.Occurrences.{Mark, names_of, Occurrence, Part, no_part, seeing, behind, in_turn, side_by_side, optional, row, row_marks, Step, Body, body, generated, use_at, clause_from, class_patterns, expr_kind_part, clause_kind_part, item_kind_step, qualifier_kind_step, assoc_kind_part, catch_kind_clause, item_step, qualifier_step, expr_part, field_part, assoc_part, clause_part}
 use Rattle.scope_rules.specs.Resolution.{all_resolved_in}
 use Rattle.scope_stack.specs.State.{above, below}
 use Rattle.variable_scopes.specs.declared.walk.Walk.{Walk}
 use Rattle.variable_scopes.specs.declared.walk.Start.{Start}
-use Rattle.variable_scopes.specs.Nodes.{item_kind_step, qualifier_kind_step, assoc_kind_part, catch_kind_part, expression_part, field_part, association_part, item_step, qualifier_step, clause_node_part, catch_node_part, body_of, tests_part, guard_tests, ended_body, construct_at, construct_part, long_construct_at, long_construct_part}
+use Rattle.variable_scopes.specs.Nodes.{catch_node_part, body_of, tests_part, guard_tests, ended_body, construct_at, construct_part, long_construct_at, long_construct_part}
 use Rattle.variable_scopes.specs.Walks.{after_each, start_of, head_ended_since, body_ended_since, part_aside_since, parts_ended_since, forgotten_since, after_occurrences, after_part, after_beside, after_step, after_marks, after_head, after_expression, after_field, after_association, after_tests, after_item, after_qualifier, after_clause, after_catch, after_generator}
 use Rattle.variable_scopes.proofs.PartLevels.{ExprLevel, part_at, item_at, qualifier_at, expr-out, item-out, qualifier-out, assoc-out, clause-out, catch-out}
 use Rattle.variable_scopes.proofs.WalkLaws.{resolved-append, resolved-seeing, resolved-behind, above-append, below-append, each-append, each-map, after-no_part, beside-no_part, after-one_more, after-in_turn, after-side_by_side, parts-ended, parts-forgotten, after_body, after-steps, body-ended, body-aside, head_walked, after-generated, after-comprehension}
@@ -75,7 +75,7 @@ module _ (k : ExprKind) (place : Place) (w v : Walk) where
   variable-done x is h = done (X.Var x) (E.Var x) is (X.outs-Var x) h
 
   module _ (e : Node ExprKind) (j : ExprKind) (same : j ≡ e.kind) where
-    same-part : (u : Walk) → after_part (expr_kind_part j e.place) u ≡ after_part (expression_part e) u
+    same-part : (u : Walk) → after_part (expr_kind_part j e.place) u ≡ after_part (expr_part e) u
     same-part u = ap (λ i. after_part (expr_kind_part i e.place) u) same
 
     pub paren-done : k ≡ X.Paren e → v ≡ after_part (expr_kind_part j e.place) w → Done
@@ -88,26 +88,26 @@ module _ (k : ExprKind) (place : Place) (w v : Walk) where
     get-done name tag field is h = done (X.RecGet e name tag field) (E.RecGet e name tag field) is (X.outs-RecGet e name tag field) (h ∙ same-part w)
 
     module _ (u : Walk) (first : u ≡ after_part (expr_kind_part j e.place) w) where
-      then-walked : u ≡ after_part (expression_part e) w
+      then-walked : u ≡ after_part (expr_part e) w
       then-walked = first ∙ same-part w
 
       pub binary-done : (op : BinaryOp) (f : Node ExprKind) → k ≡ X.Binary op e f → (i : ExprKind) → i ≡ f.kind → v ≡ after_part (expr_kind_part i f.place) u → Done
       binary-done op f is i right h =
           done (X.Binary op e f) (E.Binary op e f) is (X.outs-Binary op e f)
-          (h ∙ ((λ n. after_part (expr_kind_part (right n) f.place) (then-walked n)) ∙ sym (after-in_turn (expression_part e ∷ expression_part f ∷ []) w)))
+          (h ∙ ((λ n. after_part (expr_kind_part (right n) f.place) (then-walked n)) ∙ sym (after-in_turn (expr_part e ∷ expr_part f ∷ []) w)))
 
       pub apply-done : (es : List (Node ExprKind)) → k ≡ X.Apply e es → (s : List (Node ExprKind)) → s ≡ es → v ≡ after_each after_expression s u → Done
-      apply-done es is s listed h = done (X.Apply e es) (E.Apply e es) is (X.outs-Apply e es) (h ∙ ((λ n. after_each after_expression (listed n) (then-walked n)) ∙ walked-behind expression_part (expression_part e) es w))
+      apply-done es is s listed h = done (X.Apply e es) (E.Apply e es) is (X.outs-Apply e es) (h ∙ ((λ n. after_each after_expression (listed n) (then-walked n)) ∙ walked-behind expr_part (expr_part e) es w))
 
       pub map_change-done : (as' : List (Node AssocKind)) → k ≡ X.MapChange e as' → (s : List (Node AssocKind)) → s ≡ as' → v ≡ after_each after_association s u → Done
-      map_change-done as' is s listed h = done (X.MapChange e as') (E.MapChange e as') is (X.outs-MapChange e as') (h ∙ ((λ n. after_each after_association (listed n) (then-walked n)) ∙ walked-behind association_part (expression_part e) as' w))
+      map_change-done as' is s listed h = done (X.MapChange e as') (E.MapChange e as') is (X.outs-MapChange e as') (h ∙ ((λ n. after_each after_association (listed n) (then-walked n)) ∙ walked-behind assoc_part (expr_part e) as' w))
 
       pub record_change-done : (name tag : Name) (fs : List (Node (Name × Node ExprKind))) → k ≡ X.RecChange e name tag fs → (s : List (Node (Name × Node ExprKind))) → s ≡ fs → v ≡ after_each after_field s u → Done
-      record_change-done name tag fs is s listed h = done (X.RecChange e name tag fs) (E.RecChange e name tag fs) is (X.outs-RecChange e name tag fs) (h ∙ ((λ n. after_each after_field (listed n) (then-walked n)) ∙ walked-behind field_part (expression_part e) fs w))
+      record_change-done name tag fs is s listed h = done (X.RecChange e name tag fs) (E.RecChange e name tag fs) is (X.outs-RecChange e name tag fs) (h ∙ ((λ n. after_each after_field (listed n) (then-walked n)) ∙ walked-behind field_part (expr_part e) fs w))
 
   module _ (es s : List (Node ExprKind)) (listed : s ≡ es) (h : v ≡ after_each after_expression s w) where
-    all-done : v ≡ after_part (in_turn (map expression_part es)) w
-    all-done = h ∙ (ap (λ xs. after_each after_expression xs w) listed ∙ walked-all expression_part es w)
+    all-done : v ≡ after_part (in_turn (map expr_part es)) w
+    all-done = h ∙ (ap (λ xs. after_each after_expression xs w) listed ∙ walked-all expr_part es w)
 
     pub tuple-done : k ≡ X.Tuple es → Done
     tuple-done is = done (X.Tuple es) (E.Tuple es) is (X.outs-Tuple es) all-done
@@ -120,16 +120,16 @@ module _ (k : ExprKind) (place : Place) (w v : Walk) where
     list-done none h =
         done (X.Cells es tail) (E.Cells es tail) is (X.outs-Cells es tail)
         (h ∙ (first ∙ (ap (λ xs. after_each after_expression xs w) listed
-        ∙ (sym (after-no_part (after_each after_expression es w)) ∙ (walked-before expression_part no_part es w ∙ ap (λ o. after_part (in_turn (map expression_part es ++ optional expression_part o ∷ [])) w) (sym none))))))
+        ∙ (sym (after-no_part (after_each after_expression es w)) ∙ (walked-before expr_part no_part es w ∙ ap (λ o. after_part (in_turn (map expr_part es ++ optional expr_part o ∷ [])) w) (sym none))))))
 
     pub cells-done : (t : Node ExprKind) → tail ≡ Some t → (j : ExprKind) → j ≡ t.kind → v ≡ after_part (expr_kind_part j t.place) u → Done
     cells-done t some j same h =
         done (X.Cells es tail) (E.Cells es tail) is (X.outs-Cells es tail)
         (h ∙ ((λ n. after_part (expr_kind_part (same n) t.place) ((first ∙ ap (λ xs. after_each after_expression xs w) listed) n))
-        ∙ (walked-before expression_part (expression_part t) es w ∙ ap (λ o. after_part (in_turn (map expression_part es ++ optional expression_part o ∷ [])) w) (sym some))))
+        ∙ (walked-before expr_part (expr_part t) es w ∙ ap (λ o. after_part (in_turn (map expr_part es ++ optional expr_part o ∷ [])) w) (sym some))))
 
   pub map_new-done : (as' : List (Node AssocKind)) → k ≡ X.MapNew as' → (s : List (Node AssocKind)) → s ≡ as' → v ≡ after_each after_association s w → Done
-  map_new-done as' is s listed h = done (X.MapNew as') (E.MapNew as') is (X.outs-MapNew as') (h ∙ (ap (λ xs. after_each after_association xs w) listed ∙ walked-all association_part as' w))
+  map_new-done as' is s listed h = done (X.MapNew as') (E.MapNew as') is (X.outs-MapNew as') (h ∙ (ap (λ xs. after_each after_association xs w) listed ∙ walked-all assoc_part as' w))
 
   pub record_new-done : (name tag : Name) (fs : List (Node (Name × Node ExprKind))) → k ≡ X.RecNew name tag fs → (s : List (Node (Name × Node ExprKind))) → s ≡ fs → v ≡ after_each after_field s w → Done
   record_new-done name tag fs is s listed h = done (X.RecNew name tag fs) (E.RecNew name tag fs) is (X.outs-RecNew name tag fs) (h ∙ (ap (λ xs. after_each after_field xs w) listed ∙ walked-all field_part fs w))
@@ -183,12 +183,12 @@ module _ (k : ExprKind) (w : Walk) (start : Start) (at : start ≡ start_of w) w
   pub if-built : (cs : List (Node ClauseKind)) → k ≡ X.If cs → (s : List (Node ClauseKind)) → s ≡ cs → (u v : Walk) → u ≡ after_each (after_clause Met) s w → v ≡ parts_ended_since start u → Built v
   if-built cs kind s listed u v h ends =
       built v (X.If cs) (E.If cs) kind (X.outs-If cs)
-      (ends ∙ ((λ n. parts_ended_since (at n) ((h ∙ (ap (λ xs. after_each (after_clause Met) xs w) listed ∙ walked-beside (clause_node_part Met) cs w)) n)) ∙ parts-ended (side_by_side (map (clause_node_part Met) cs)) w))
+      (ends ∙ ((λ n. parts_ended_since (at n) ((h ∙ (ap (λ xs. after_each (after_clause Met) xs w) listed ∙ walked-beside (clause_part Met) cs w)) n)) ∙ parts-ended (side_by_side (map (clause_part Met) cs)) w))
 
   pub fun-built : (cs : List (Node ClauseKind)) → k ≡ X.Fun cs → (s : List (Node ClauseKind)) → s ≡ cs → (u v : Walk) → u ≡ after_each (after_clause Renewed) s w → v ≡ forgotten_since start u → Built v
   fun-built cs kind s listed u v h ends =
       built v (X.Fun cs) (E.Fun cs) kind (X.outs-Fun cs)
-      (ends ∙ ((λ n. forgotten_since (at n) ((h ∙ (ap (λ xs. after_each (after_clause Renewed) xs w) listed ∙ walked-beside (clause_node_part Renewed) cs w)) n)) ∙ parts-forgotten (side_by_side (map (clause_node_part Renewed) cs)) w))
+      (ends ∙ ((λ n. forgotten_since (at n) ((h ∙ (ap (λ xs. after_each (after_clause Renewed) xs w) listed ∙ walked-beside (clause_part Renewed) cs w)) n)) ∙ parts-forgotten (side_by_side (map (clause_part Renewed) cs)) w))
 
   -- parts side by side behind a part
   ends-behind : (p q : Part) (x u v : Walk) → x ≡ after_part p w → u ≡ after_beside q x → v ≡ parts_ended_since start u → v ≡ after_part (in_turn (p ∷ q ∷ [])) w
@@ -198,7 +198,7 @@ module _ (k : ExprKind) (w : Walk) (start : Start) (at : start ≡ start_of w) w
   pub case-built : (e : Node ExprKind) (cs : List (Node ClauseKind)) → k ≡ X.Case e cs → (j : ExprKind) → j ≡ e.kind → (x : Walk) → x ≡ after_part (expr_kind_part j e.place) w → (s : List (Node ClauseKind)) → s ≡ cs → (u v : Walk) → u ≡ after_each (after_clause Met) s x → v ≡ parts_ended_since start u → Built v
   case-built e cs kind j same x first s listed u v h ends =
       built v (X.Case e cs) (E.Case e cs) kind (X.outs-Case e cs)
-      (ends-behind (expression_part e) (side_by_side (map (clause_node_part Met) cs)) x u v (first ∙ ap (λ i. after_part (expr_kind_part i e.place) w) same) (h ∙ (ap (λ xs. after_each (after_clause Met) xs x) listed ∙ walked-beside (clause_node_part Met) cs x)) ends)
+      (ends-behind (expr_part e) (side_by_side (map (clause_part Met) cs)) x u v (first ∙ ap (λ i. after_part (expr_kind_part i e.place) w) same) (h ∙ (ap (λ xs. after_each (after_clause Met) xs x) listed ∙ walked-beside (clause_part Met) cs x)) ends)
 
   pub try-built : (is : List (Node ItemKind)) (cs : List (Node ClauseKind)) (catches : List (Node CatchKind)) (after : Option (List (Node ItemKind))) → k ≡ X.Try is cs catches after →
       (is' : List (Node ItemKind)) → is' ≡ is → (a : Walk) → a ≡ after_each after_item is' w → (b : Walk) → b ≡ body_ended_since start a →
@@ -207,22 +207,22 @@ module _ (k : ExprKind) (w : Walk) (start : Start) (at : start ≡ start_of w) w
       (u : Walk) → u ≡ after_beside (optional ended_body after) d → (v : Walk) → v ≡ parts_ended_since start u → BuiltLong v
   try-built is cs catches after kind is' items a walked b ended cs' clauses c first catches' caught d second u last v ends =
       built-long v (X.Try is cs catches after) (E.Try is cs catches after) kind (X.outs-Try is cs catches after)
-      (ends-behind (ended_body is) (side_by_side (side_by_side (map (clause_node_part Met) cs) ∷ side_by_side (map catch_node_part catches) ∷ optional ended_body after ∷ [])) b u v (body-walked is is' items a b walked ended)
-      (last ∙ (ap (after_beside (optional ended_body after)) (second ∙ ((λ n. after_each after_catch (caught n) ((first ∙ (ap (λ xs. after_each (after_clause Met) xs b) clauses ∙ walked-beside (clause_node_part Met) cs b)) n)) ∙ walked-beside catch_node_part catches (after_beside (side_by_side (map (clause_node_part Met) cs)) b)))
-      ∙ sym (after-side_by_side (side_by_side (map (clause_node_part Met) cs) ∷ side_by_side (map catch_node_part catches) ∷ optional ended_body after ∷ []) b))) ends)
+      (ends-behind (ended_body is) (side_by_side (side_by_side (map (clause_part Met) cs) ∷ side_by_side (map catch_node_part catches) ∷ optional ended_body after ∷ [])) b u v (body-walked is is' items a b walked ended)
+      (last ∙ (ap (after_beside (optional ended_body after)) (second ∙ ((λ n. after_each after_catch (caught n) ((first ∙ (ap (λ xs. after_each (after_clause Met) xs b) clauses ∙ walked-beside (clause_part Met) cs b)) n)) ∙ walked-beside catch_node_part catches (after_beside (side_by_side (map (clause_part Met) cs)) b)))
+      ∙ sym (after-side_by_side (side_by_side (map (clause_part Met) cs) ∷ side_by_side (map catch_node_part catches) ∷ optional ended_body after ∷ []) b))) ends)
 
   pub comprehension-built : (e : Node ExprKind) (qs : List (Node QualifierKind)) → k ≡ X.Comp e qs → (s : List (Node QualifierKind)) → s ≡ qs → (a : Walk) → a ≡ after_each after_generator s w →
       (j : ExprKind) → j ≡ e.kind → (b : Walk) → b ≡ after_part (expr_kind_part j e.place) a → (c : Walk) → c ≡ head_ended_since start b →
       (s' : List (Node QualifierKind)) → s' ≡ qs → (d : Walk) → d ≡ after_each after_qualifier s' c → (v : Walk) → v ≡ forgotten_since start d → BuiltLong v
   comprehension-built e qs kind s listed a seen j same b walked c headed s' again d qualified v ends =
       built-long v (X.Comp e qs) (E.Comp e qs) kind (X.outs-Comp e qs)
-      (ends ∙ ((λ n. forgotten_since (at n) (behind-head n)) ∙ after-comprehension (expression_part e) (map qualifier_step qs) w))
+      (ends ∙ ((λ n. forgotten_since (at n) (behind-head n)) ∙ after-comprehension (expr_part e) (map qualifier_step qs) w))
     where
-      before-head : c ≡ head_walked (expression_part e) (map qualifier_step qs) w
+      before-head : c ≡ head_walked (expr_part e) (map qualifier_step qs) w
       before-head = headed ∙ λ n. head_ended_since (at n) ((walked ∙ λ i. after_part (expr_kind_part (same i) e.place) ((seen ∙ (ap (λ xs. after_each after_generator xs w) listed ∙ generators-walked qs w)) i)) n)
 
-      behind-head : d ≡ after_body (body (map qualifier_step qs)) (head_walked (expression_part e) (map qualifier_step qs) w)
-      behind-head = qualified ∙ ((λ n. after_each after_qualifier (again n) (before-head n)) ∙ qualifiers-walked qs (head_walked (expression_part e) (map qualifier_step qs) w))
+      behind-head : d ≡ after_body (body (map qualifier_step qs)) (head_walked (expr_part e) (map qualifier_step qs) w)
+      behind-head = qualified ∙ ((λ n. after_each after_qualifier (again n) (before-head n)) ∙ qualifiers-walked qs (head_walked (expr_part e) (map qualifier_step qs) w))
 
   module _ (not_begin : (is : List (Node ItemKind)) → k ≡ X.Begin is → ⊥) (not_case : (e : Node ExprKind) (cs : List (Node ClauseKind)) → k ≡ X.Case e cs → ⊥) (not_if : (cs : List (Node ClauseKind)) → k ≡ X.If cs → ⊥) (not_fun : (cs : List (Node ClauseKind)) → k ≡ X.Fun cs → ⊥) where
     is-long : (l : ExprLevel) → out-ExprKind k ≡ l → construct_at l ≡ long_construct_at l
@@ -260,19 +260,19 @@ step-match os ms p w = λ j. record {
 module _ (w : Walk) (e : Node ExprKind) (j : ExprKind) (same : j ≡ e.kind) where
   module _ (k : ItemKind) where
     pub value-item : (v : Walk) → k ≡ I.Value e → v ≡ after_part (expr_kind_part j e.place) w → v ≡ after_step (item_kind_step k) w
-    value-item v is h = h ∙ (ap (λ i. after_part (expr_kind_part i e.place) w) same ∙ (sym (step-value (expression_part e) w) ∙ sym (ap (λ s. after_step s w) (item-out k ∙ ap item_at (ap out-ItemKind is ∙ I.outs-Value e)))))
+    value-item v is h = h ∙ (ap (λ i. after_part (expr_kind_part i e.place) w) same ∙ (sym (step-value (expr_part e) w) ∙ sym (ap (λ s. after_step s w) (item-out k ∙ ap item_at (ap out-ItemKind is ∙ I.outs-Value e)))))
 
     pub match-item : (p : Node PatternKind) → k ≡ I.Match p e → (a b v : Walk) → a ≡ after_occurrences (row Met (p ∷ [])) w → b ≡ after_part (expr_kind_part j e.place) a → v ≡ after_marks (row_marks Met (p ∷ [])) b → v ≡ after_step (item_kind_step k) w
     match-item p is a b v found walked seen =
-        seen ∙ (ap (after_marks (row_marks Met (p ∷ []))) (walked ∙ λ n. after_part (expr_kind_part (same n) e.place) (found n)) ∙ (step-match (row Met (p ∷ [])) (row_marks Met (p ∷ [])) (expression_part e) w ∙ sym (ap (λ s. after_step s w) (item-out k ∙ ap item_at (ap out-ItemKind is ∙ I.outs-Match p e)))))
+        seen ∙ (ap (after_marks (row_marks Met (p ∷ []))) (walked ∙ λ n. after_part (expr_kind_part (same n) e.place) (found n)) ∙ (step-match (row Met (p ∷ [])) (row_marks Met (p ∷ [])) (expr_part e) w ∙ sym (ap (λ s. after_step s w) (item-out k ∙ ap item_at (ap out-ItemKind is ∙ I.outs-Match p e)))))
 
   module _ (k : QualifierKind) where
     pub filter-qualifier : (v : Walk) → k ≡ Q.Filter e → v ≡ after_part (expr_kind_part j e.place) w → v ≡ after_step (qualifier_kind_step k) w
-    filter-qualifier v is h = h ∙ (ap (λ i. after_part (expr_kind_part i e.place) w) same ∙ (sym (step-value (expression_part e) w) ∙ sym (ap (λ s. after_step s w) (qualifier-out k ∙ ap qualifier_at (ap out-QualifierKind is ∙ Q.outs-Filter e)))))
+    filter-qualifier v is h = h ∙ (ap (λ i. after_part (expr_kind_part i e.place) w) same ∙ (sym (step-value (expr_part e) w) ∙ sym (ap (λ s. after_step s w) (qualifier-out k ∙ ap qualifier_at (ap out-QualifierKind is ∙ Q.outs-Filter e)))))
 
     pub generator-qualifier : (p : Node PatternKind) → k ≡ Q.Generator p e → (a b v : Walk) → a ≡ after_occurrences (row Renewed (p ∷ [])) w → b ≡ after_part (expr_kind_part j e.place) a → v ≡ after_marks (row_marks Renewed (p ∷ [])) b → v ≡ after_step (qualifier_kind_step k) w
     generator-qualifier p is a b v found walked seen =
-        seen ∙ (ap (after_marks (row_marks Renewed (p ∷ []))) (walked ∙ λ n. after_part (expr_kind_part (same n) e.place) (found n)) ∙ (step-match (row Renewed (p ∷ [])) (row_marks Renewed (p ∷ [])) (expression_part e) w ∙ sym (ap (λ s. after_step s w) (qualifier-out k ∙ ap qualifier_at (ap out-QualifierKind is ∙ Q.outs-Generator p e)))))
+        seen ∙ (ap (after_marks (row_marks Renewed (p ∷ []))) (walked ∙ λ n. after_part (expr_kind_part (same n) e.place) (found n)) ∙ (step-match (row Renewed (p ∷ [])) (row_marks Renewed (p ∷ [])) (expr_part e) w ∙ sym (ap (λ s. after_step s w) (qualifier-out k ∙ ap qualifier_at (ap out-QualifierKind is ∙ Q.outs-Generator p e)))))
 
 marks-none : (w : Walk) → after_marks [] w ≡ w
 unfolding after_marks
@@ -289,7 +289,7 @@ filter-seen k e is w = sym (ap (λ (s : Step). after_marks s.binds w) (qualifier
 pub association-walked : (k : AssocKind) (w : Walk) (i : ExprKind) → i ≡ (out-AssocKind k).key.kind → (u : Walk) → u ≡ after_part (expr_kind_part i (out-AssocKind k).key.place) w → (j : ExprKind) → j ≡ (out-AssocKind k).value.kind → (v : Walk) → v ≡ after_part (expr_kind_part j (out-AssocKind k).value.place) u → v ≡ after_part (assoc_kind_part k) w
 association-walked k w i key u first j value v last =
     last ∙ ((λ n. after_part (expr_kind_part (value n) (out-AssocKind k).value.place) ((first ∙ ap (λ a. after_part (expr_kind_part a (out-AssocKind k).key.place) w) key) n))
-    ∙ (sym (after-in_turn (expression_part (out-AssocKind k).key ∷ expression_part (out-AssocKind k).value ∷ []) w) ∙ sym (ap (λ p. after_part p w) (assoc-out k))))
+    ∙ (sym (after-in_turn (expr_part (out-AssocKind k).key ∷ expr_part (out-AssocKind k).value ∷ []) w) ∙ sym (ap (λ p. after_part p w) (assoc-out k))))
 
 pub association-at : (a k : AssocKind) → k ≡ a → (w : Walk) (i : ExprKind) → i ≡ (out-AssocKind k).key.kind → (u : Walk) → u ≡ after_part (expr_kind_part i (out-AssocKind k).key.place) w → (j : ExprKind) → j ≡ (out-AssocKind k).value.kind → (v : Walk) → v ≡ after_part (expr_kind_part j (out-AssocKind k).value.place) u → v ≡ after_part (assoc_kind_part a) w
 association-at a k same w i key u first j value v last = association-walked k w i key u first j value v last ∙ ap (λ x. after_part (assoc_kind_part x) w) same
@@ -297,7 +297,7 @@ association-at a k same w i key u first j value v last = association-walked k w 
 -- ---- clauses
 
 pub tests-walked : (es : List (Node ExprKind)) (w : Walk) → after_tests es w ≡ after_part (tests_part es) w
-tests-walked es w = walked-all expression_part es w
+tests-walked es w = walked-all expr_part es w
 
 pub guard-walked : (g : Node (List (List (Node ExprKind)))) (ts : List (List (Node ExprKind))) → ts ≡ g.kind → (w v : Walk) → v ≡ after_each after_tests ts w → v ≡ after_part (guard_tests g) w
 guard-walked g ts listed w v h = h ∙ (ap (λ xs. after_each after_tests xs w) listed ∙ (each-same after_tests (λ es u. after_part (tests_part es) u) tests-walked g.kind w ∙ walked-all tests_part g.kind w))
@@ -345,7 +345,7 @@ clause-walked k role front w start at ps patterns a head b guard is items c walk
         walked ∙ ((λ n. after_each after_item (items n) ((guard ∙ ap (after_part (optional guard_tests l.guard)) (head ∙ ap (λ qs. after_head (row role (front ++ qs)) (row_marks role (front ++ qs)) w) patterns)) n))
         ∙ items-walked l.body (after_part (optional guard_tests l.guard) (after_head (row role (front ++ l.patterns)) (row_marks role (front ++ l.patterns)) w)))
 
-pub catch-walked : (k : CatchKind) (w : Walk) (j : ClauseKind) → j ≡ (out-CatchKind k).clause.kind → (v : Walk) → v ≡ after_beside (clause_kind_part j Met (class_patterns (out-CatchKind k).class)) w → v ≡ after_beside (catch_kind_part k Met []) w
+pub catch-walked : (k : CatchKind) (w : Walk) (j : ClauseKind) → j ≡ (out-CatchKind k).clause.kind → (v : Walk) → v ≡ after_beside (clause_kind_part j Met (class_patterns (out-CatchKind k).class)) w → v ≡ after_beside (catch_kind_clause k Met []) w
 catch-walked k w j same v h = h ∙ (ap (λ i. after_beside (clause_kind_part i Met (class_patterns (out-CatchKind k).class)) w) same ∙ sym (ap (λ p. after_beside p w) (catch-out k Met [])))
 
 pub after-walked : (is s : List (Node ItemKind)) → s ≡ is → (w : Walk) (start : Start) → start ≡ start_of w → (u v : Walk) → u ≡ after_each after_item s w → v ≡ part_aside_since start u → v ≡ after_beside (ended_body is) w
@@ -365,5 +365,5 @@ without-guard o none w = sym (ap (λ g. after_part (optional guard_tests g) w) n
 pub with-guard : (o : Option (Node (List (List (Node ExprKind))))) (g : Node (List (List (Node ExprKind)))) → o ≡ Some g → (ts : List (List (Node ExprKind))) → ts ≡ g.kind → (w v : Walk) → v ≡ after_each after_tests ts w → v ≡ after_part (optional guard_tests o) w
 with-guard o g some ts listed w v h = guard-walked g ts listed w v h ∙ sym (ap (λ x. after_part (optional guard_tests x) w) some)
 
-pub catch-at : (a k : CatchKind) → k ≡ a → (w : Walk) (j : ClauseKind) → j ≡ (out-CatchKind k).clause.kind → (v : Walk) → v ≡ after_beside (clause_kind_part j Met (class_patterns (out-CatchKind k).class)) w → v ≡ after_beside (catch_kind_part a Met []) w
-catch-at a k same w j kind v h = catch-walked k w j kind v h ∙ ap (λ x. after_beside (catch_kind_part x Met []) w) same
+pub catch-at : (a k : CatchKind) → k ≡ a → (w : Walk) (j : ClauseKind) → j ≡ (out-CatchKind k).clause.kind → (v : Walk) → v ≡ after_beside (clause_kind_part j Met (class_patterns (out-CatchKind k).class)) w → v ≡ after_beside (catch_kind_clause a Met []) w
+catch-at a k same w j kind v h = catch-walked k w j kind v h ∙ ap (λ x. after_beside (catch_kind_clause x Met []) w) same

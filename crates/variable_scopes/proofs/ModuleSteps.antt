@@ -11,11 +11,10 @@ use Rattle.erl_tree.specs.declared.form.TreeForm.{TreeForm}
 use Rattle.erl_tree.specs.declared.form.TreeForm.TheVariants as F
 use Rattle.erl_tree.specs.declared.form.Module.{Module}
 use Rattle.scope_rules.specs.declared.role.Role.TheVariants.{Met}
-use Rattle.scope_rules.specs.Occurrences.{side_by_side, expr_kind_part, default_part, form_occurrences, forms_occurrences}
+use Rattle.scope_rules.specs.Occurrences.{side_by_side, expr_kind_part, default_part, form_occurrences, forms_occurrences, expr_part, clause_part}
 use Rattle.scope_rules.specs.Resolution.{resolved_of}
 use Rattle.variable_scopes.specs.declared.walk.Walk.{Walk}
 use Rattle.variable_scopes.specs.declared.walk.Start.{Start}
-use Rattle.variable_scopes.specs.Nodes.{expression_part, clause_node_part}
 use Rattle.variable_scopes.specs.Walks.{at_first, after_each, start_of, forgotten_since, after_occurrences, after_part, after_clause, after_default_expression, after_default, after_form}
 use Rattle.variable_scopes.proofs.WalkLaws.{occurrences-beside, occurrences-of_part, occurrences-append, occurrences-none}
 use Rattle.variable_scopes.proofs.ExprSteps.{walked-beside}
@@ -25,7 +24,7 @@ without-default o none w = sym (ap (λ x. after_default_expression x w) none ∙
 
 pub with-default : (o : Option (Node ExprKind)) (e : Node ExprKind) → o ≡ Some e → (w : Walk) (start : Start) → start ≡ start_of w → (j : ExprKind) → j ≡ e.kind → (a : Walk) → a ≡ after_part (expr_kind_part j e.place) w → (v : Walk) → v ≡ forgotten_since start a → v ≡ after_default_expression o w
 with-default o e some w start at j same a walked v ends =
-    ends ∙ ((λ n. forgotten_since (at n) ((walked ∙ ap (λ i. after_part (expr_kind_part i e.place) w) same) n)) ∙ (occurrences-of_part (expression_part e) w ∙ sym (ap (λ x. after_default_expression x w) some)))
+    ends ∙ ((λ n. forgotten_since (at n) ((walked ∙ ap (λ i. after_part (expr_kind_part i e.place) w) same) n)) ∙ (occurrences-of_part (expr_part e) w ∙ sym (ap (λ x. after_default_expression x w) some)))
 
 pub default-at : (f : Node RecFieldKind) (k : RecFieldKind) → k ≡ f.kind → (w v : Walk) → v ≡ after_default_expression k.default w → v ≡ after_default f w
 default-at f k same w v h = h ∙ ap (λ (x : RecFieldKind). after_default_expression x.default w) same
@@ -37,8 +36,8 @@ defaults-walked (f ∷ fs) w = defaults-walked fs (after_default f w) ∙ sym (o
 module _ (form : TreeForm) (w : Walk) where
   pub function-walked : (f : Function) → form ≡ F.Function f → (start : Start) → start ≡ start_of w → (s : List (Node ClauseKind)) → s ≡ f.clauses → (a : Walk) → a ≡ after_each (after_clause Met) s w → (v : Walk) → v ≡ forgotten_since start a → v ≡ after_form form w
   function-walked f is start at s listed a walked v ends =
-      ends ∙ ((λ n. forgotten_since (at n) ((walked ∙ (ap (λ xs. after_each (after_clause Met) xs w) listed ∙ walked-beside (clause_node_part Met) f.clauses w)) n))
-      ∙ (occurrences-beside (side_by_side (map (clause_node_part Met) f.clauses)) w ∙ sym (ap (λ x. after_form x w) is)))
+      ends ∙ ((λ n. forgotten_since (at n) ((walked ∙ (ap (λ xs. after_each (after_clause Met) xs w) listed ∙ walked-beside (clause_part Met) f.clauses w)) n))
+      ∙ (occurrences-beside (side_by_side (map (clause_part Met) f.clauses)) w ∙ sym (ap (λ x. after_form x w) is)))
 
   pub record-walked : (r : Node RecDefKind) → form ≡ F.RecDef r → (k : RecDefKind) → k ≡ r.kind → (s : List (Node RecFieldKind)) → s ≡ k.fields → (v : Walk) → v ≡ after_each after_default s w → v ≡ after_form form w
   record-walked r is k same s listed v h =

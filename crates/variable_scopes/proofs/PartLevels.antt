@@ -16,11 +16,11 @@ use Rattle.erl_tree.specs.declared.expr.QualifierKind.{QualifierKind, out-Qualif
 use Rattle.erl_tree.specs.declared.expr.AssocKind.{AssocKind, out-AssocKind, fold_out-AssocKind}
 use Rattle.erl_tree.specs.declared.expr.CatchKind.{CatchKind, out-CatchKind, fold_out-CatchKind}
 use Rattle.erl_tree.specs.declared.expr.ClauseKind.{ClauseKind, out-ClauseKind, map-ClauseKind, fold_out-ClauseKind}
-use Rattle.erl_runs.specs.Readable.{is_wildcard}
+use Rattle.erl_runs.specs.Names.{is_wildcard}
 use Rattle.scope_rules.specs.declared.role.Role.{Role}
 use Rattle.scope_rules.specs.declared.role.Role.TheVariants.{Met, Renewed}
-use Rattle.scope_rules.specs.Occurrences.{Part, no_part, in_turn, side_by_side, closed, optional, Variables, variables_of_each, variables_of_node, variables_of_optional, variables_layer, pattern_kind_variables, variables_of, row_variables, row, row_marks, Expression, part, parts, Step, steps, Clause, body, whole, comprehension, use_at, field_parts, assoc_parts, expr_layer, item_layer, qualifier_layer, assoc_layer, guard_part, clause_from, clause_layer, class_patterns, catch_layer, expr_kind_part, clause_kind_part}
-use Rattle.variable_scopes.specs.Nodes.{entry_variables, field_variables, optional_variables, item_kind_step, qualifier_kind_step, assoc_kind_part, catch_kind_part, expression_part, field_part, association_part, item_step, qualifier_step, clause_node_part, catch_node_part, body_of, tests_part, guard_tests}
+use Rattle.scope_rules.specs.Occurrences.{Part, no_part, in_turn, side_by_side, closed, optional, Variables, variables_of_each, variables_of_node, variables_of_optional, variables_layer, pattern_kind_variables, variables_of, row_variables, row, row_marks, Expression, part, parts, Step, steps, Clause, body, whole, comprehension, use_at, field_parts, assoc_parts, expr_layer, item_layer, qualifier_layer, assoc_layer, guard_part, clause_from, clause_layer, class_patterns, catch_layer, expr_kind_part, clause_kind_part, item_kind_step, qualifier_kind_step, assoc_kind_part, catch_kind_clause, item_step, qualifier_step, expr_part, field_part, assoc_part, clause_part}
+use Rattle.variable_scopes.specs.Nodes.{entry_variables, field_variables, optional_variables, catch_node_part, body_of, tests_part, guard_tests}
 
 -- ---- patterns
 
@@ -85,36 +85,36 @@ ClauseLevel = E.ClauseKind-F ExprKind ItemKind QualifierKind AssocKind CatchKind
 -- the part of an expression, by those of what it holds
 abbrev pub part_at : ExprLevel → Expression
 part_at (E.Var x) place = use_at x place
-part_at (E.Paren e) place = expression_part e
-part_at (E.Tuple es) place = in_turn (map expression_part es)
-part_at (E.Cells es tail) place = in_turn (map expression_part es ++ optional expression_part tail ∷ [])
-part_at (E.Comp e qs) place = comprehension (expression_part e) (map qualifier_step qs)
-part_at (E.Unary op e) place = expression_part e
-part_at (E.Binary op a b) place = in_turn (expression_part a ∷ expression_part b ∷ [])
-part_at (E.Call prefix name args) place = in_turn (map expression_part args)
-part_at (E.Apply f args) place = in_turn (expression_part f ∷ map expression_part args)
-part_at (E.MapNew assocs) place = in_turn (map association_part assocs)
-part_at (E.MapChange e assocs) place = in_turn (expression_part e ∷ map association_part assocs)
+part_at (E.Paren e) place = expr_part e
+part_at (E.Tuple es) place = in_turn (map expr_part es)
+part_at (E.Cells es tail) place = in_turn (map expr_part es ++ optional expr_part tail ∷ [])
+part_at (E.Comp e qs) place = comprehension (expr_part e) (map qualifier_step qs)
+part_at (E.Unary op e) place = expr_part e
+part_at (E.Binary op a b) place = in_turn (expr_part a ∷ expr_part b ∷ [])
+part_at (E.Call prefix name args) place = in_turn (map expr_part args)
+part_at (E.Apply f args) place = in_turn (expr_part f ∷ map expr_part args)
+part_at (E.MapNew assocs) place = in_turn (map assoc_part assocs)
+part_at (E.MapChange e assocs) place = in_turn (expr_part e ∷ map assoc_part assocs)
 part_at (E.RecNew name tag fields) place = in_turn (map field_part fields)
-part_at (E.RecChange e name tag fields) place = in_turn (expression_part e ∷ map field_part fields)
-part_at (E.RecGet e name tag field) place = expression_part e
+part_at (E.RecChange e name tag fields) place = in_turn (expr_part e ∷ map field_part fields)
+part_at (E.RecGet e name tag field) place = expr_part e
 part_at (E.Begin items) place = whole (body_of items)
-part_at (E.Case e cs) place = in_turn (expression_part e ∷ side_by_side (map (clause_node_part Met) cs) ∷ [])
-part_at (E.If cs) place = side_by_side (map (clause_node_part Met) cs)
-part_at (E.Fun cs) place = closed (side_by_side (map (clause_node_part Renewed) cs))
-part_at (E.Try is cs catches after) place = in_turn (whole (body_of is) ∷ side_by_side (side_by_side (map (clause_node_part Met) cs) ∷ side_by_side (map catch_node_part catches) ∷ optional (λ ns. whole (body_of ns)) after ∷ []) ∷ [])
+part_at (E.Case e cs) place = in_turn (expr_part e ∷ side_by_side (map (clause_part Met) cs) ∷ [])
+part_at (E.If cs) place = side_by_side (map (clause_part Met) cs)
+part_at (E.Fun cs) place = closed (side_by_side (map (clause_part Renewed) cs))
+part_at (E.Try is cs catches after) place = in_turn (whole (body_of is) ∷ side_by_side (side_by_side (map (clause_part Met) cs) ∷ side_by_side (map catch_node_part catches) ∷ optional (λ ns. whole (body_of ns)) after ∷ []) ∷ [])
 part_at _ place = no_part
 
 abbrev pub item_at : ItemLevel → Step
-item_at (E.Value e) = record { pattern = []; binds = []; expression = expression_part e }
-item_at (E.Match p e) = record { pattern = row Met (p ∷ []); binds = row_marks Met (p ∷ []); expression = expression_part e }
+item_at (E.Value e) = record { pattern = []; binds = []; expression = expr_part e }
+item_at (E.Match p e) = record { pattern = row Met (p ∷ []); binds = row_marks Met (p ∷ []); expression = expr_part e }
 
 abbrev pub qualifier_at : QualifierLevel → Step
-qualifier_at (E.Generator p e) = record { pattern = row Renewed (p ∷ []); binds = row_marks Renewed (p ∷ []); expression = expression_part e }
-qualifier_at (E.Filter e) = record { pattern = []; binds = []; expression = expression_part e }
+qualifier_at (E.Generator p e) = record { pattern = row Renewed (p ∷ []); binds = row_marks Renewed (p ∷ []); expression = expr_part e }
+qualifier_at (E.Filter e) = record { pattern = []; binds = []; expression = expr_part e }
 
 abbrev pub assoc_at : AssocLevel → Part
-assoc_at a = in_turn (expression_part a.key ∷ expression_part a.value ∷ [])
+assoc_at a = in_turn (expr_part a.key ∷ expr_part a.value ∷ [])
 
 abbrev pub clause_at : ClauseLevel → Clause
 clause_at c role front = clause_from (row role (front ++ c.patterns)) (row_marks role (front ++ c.patterns)) (optional guard_tests c.guard) (body_of c.body)
@@ -124,11 +124,11 @@ catch_at c role front = clause_kind_part c.clause.kind role (front ++ class_patt
 
 -- ---- rows of parts
 
-parts-are : (es : List (Node ExprKind)) → parts (S.former-ExprKind-Tuple-0.map ExprKind Expression expr_kind_part es) ≡ map expression_part es
+parts-are : (es : List (Node ExprKind)) → parts (S.former-ExprKind-Tuple-0.map ExprKind Expression expr_kind_part es) ≡ map expr_part es
 parts-are [] = refl
-parts-are (e ∷ es) = ap (λ ps. expression_part e ∷ ps) (parts-are es)
+parts-are (e ∷ es) = ap (λ ps. expr_part e ∷ ps) (parts-are es)
 
-optional-is : (o : Option (Node ExprKind)) → optional part (S.former-ExprKind-Cells-1.map ExprKind Expression expr_kind_part o) ≡ optional expression_part o
+optional-is : (o : Option (Node ExprKind)) → optional part (S.former-ExprKind-Cells-1.map ExprKind Expression expr_kind_part o) ≡ optional expr_part o
 optional-is None = refl
 optional-is (Some e) = refl
 
@@ -140,19 +140,19 @@ qualifiers-are : (qs : List (Node QualifierKind)) → steps (S.former-ExprKind-C
 qualifiers-are [] = refl
 qualifiers-are (q ∷ qs) = ap (λ ps. qualifier_step q ∷ ps) (qualifiers-are qs)
 
-assocs-are : (as' : List (Node AssocKind)) → assoc_parts (S.former-ExprKind-MapNew-0.map AssocKind Part assoc_kind_part as') ≡ map association_part as'
+assocs-are : (as' : List (Node AssocKind)) → assoc_parts (S.former-ExprKind-MapNew-0.map AssocKind Part assoc_kind_part as') ≡ map assoc_part as'
 assocs-are [] = refl
-assocs-are (a ∷ as') = ap (λ ps. association_part a ∷ ps) (assocs-are as')
+assocs-are (a ∷ as') = ap (λ ps. assoc_part a ∷ ps) (assocs-are as')
 
 field_parts-are : (fs : List (Node (Name × Node ExprKind))) → field_parts (S.former-ExprKind-RecNew-2.map ExprKind Expression expr_kind_part fs) ≡ map field_part fs
 field_parts-are [] = refl
 field_parts-are (f ∷ fs) = ap (λ ps. field_part f ∷ ps) (field_parts-are fs)
 
-clauses-are : (role : Role) (cs : List (Node ClauseKind)) → map (λ (n : Node Clause). n.kind role []) (S.former-ExprKind-Case-1.map ClauseKind Clause clause_kind_part cs) ≡ map (clause_node_part role) cs
+clauses-are : (role : Role) (cs : List (Node ClauseKind)) → map (λ (n : Node Clause). n.kind role []) (S.former-ExprKind-Case-1.map ClauseKind Clause clause_kind_part cs) ≡ map (clause_part role) cs
 clauses-are role [] = refl
-clauses-are role (c ∷ cs) = ap (λ ps. clause_node_part role c ∷ ps) (clauses-are role cs)
+clauses-are role (c ∷ cs) = ap (λ ps. clause_part role c ∷ ps) (clauses-are role cs)
 
-catches-are : (cs : List (Node CatchKind)) → map (λ (n : Node Clause). n.kind Met []) (S.former-ExprKind-Try-2.map CatchKind Clause catch_kind_part cs) ≡ map catch_node_part cs
+catches-are : (cs : List (Node CatchKind)) → map (λ (n : Node Clause). n.kind Met []) (S.former-ExprKind-Try-2.map CatchKind Clause catch_kind_clause cs) ≡ map catch_node_part cs
 catches-are [] = refl
 catches-are (c ∷ cs) = ap (λ ps. catch_node_part c ∷ ps) (catches-are cs)
 
@@ -170,54 +170,54 @@ guard-is (Some g) = ap in_turn (tests-are g.kind)
 
 -- ---- the equations
 
-expr-same : (o : ExprLevel) (place : Place) → expr_layer (map-ExprKind ExprKind ItemKind QualifierKind AssocKind CatchKind ClauseKind Expression Step Step Part Clause Clause expr_kind_part item_kind_step qualifier_kind_step assoc_kind_part catch_kind_part clause_kind_part o) place ≡ part_at o place
+expr-same : (o : ExprLevel) (place : Place) → expr_layer (map-ExprKind ExprKind ItemKind QualifierKind AssocKind CatchKind ClauseKind Expression Step Step Part Clause Clause expr_kind_part item_kind_step qualifier_kind_step assoc_kind_part catch_kind_clause clause_kind_part o) place ≡ part_at o place
 expr-same (E.Tuple es) place = λ j. in_turn (parts-are es j)
 expr-same (E.Cells es tail) place = λ j. in_turn (parts-are es j ++ optional-is tail j ∷ [])
-expr-same (E.Comp e qs) place = λ j. comprehension (expression_part e) (qualifiers-are qs j)
+expr-same (E.Comp e qs) place = λ j. comprehension (expr_part e) (qualifiers-are qs j)
 expr-same (E.Call prefix name args) place = λ j. in_turn (parts-are args j)
-expr-same (E.Apply f args) place = λ j. in_turn (expression_part f ∷ parts-are args j)
+expr-same (E.Apply f args) place = λ j. in_turn (expr_part f ∷ parts-are args j)
 expr-same (E.MapNew assocs) place = λ j. in_turn (assocs-are assocs j)
-expr-same (E.MapChange e assocs) place = λ j. in_turn (expression_part e ∷ assocs-are assocs j)
+expr-same (E.MapChange e assocs) place = λ j. in_turn (expr_part e ∷ assocs-are assocs j)
 expr-same (E.RecNew name tag fields) place = λ j. in_turn (field_parts-are fields j)
-expr-same (E.RecChange e name tag fields) place = λ j. in_turn (expression_part e ∷ field_parts-are fields j)
+expr-same (E.RecChange e name tag fields) place = λ j. in_turn (expr_part e ∷ field_parts-are fields j)
 expr-same (E.Begin items) place = λ j. whole (body (steps-are items j))
-expr-same (E.Case e cs) place = λ j. in_turn (expression_part e ∷ side_by_side (clauses-are Met cs j) ∷ [])
+expr-same (E.Case e cs) place = λ j. in_turn (expr_part e ∷ side_by_side (clauses-are Met cs j) ∷ [])
 expr-same (E.If cs) place = λ j. side_by_side (clauses-are Met cs j)
 expr-same (E.Fun cs) place = λ j. closed (side_by_side (clauses-are Renewed cs j))
 expr-same (E.Try is cs catches after) place = λ j. in_turn (whole (body (steps-are is j)) ∷ side_by_side (side_by_side (clauses-are Met cs j) ∷ side_by_side (catches-are catches j) ∷ after-is after j ∷ []) ∷ [])
 expr-same _ place = refl
 
 pub expr-out : (k : ExprKind) (place : Place) → expr_kind_part k place ≡ part_at (out-ExprKind k) place
-unfolding expr_kind_part clause_kind_part item_kind_step qualifier_kind_step assoc_kind_part catch_kind_part
+unfolding expr_kind_part clause_kind_part item_kind_step qualifier_kind_step assoc_kind_part catch_kind_clause
 expr-out k place = ap (λ (f : Expression). f place) (fold_out-ExprKind Expression Step Step Part Clause Clause expr_layer item_layer qualifier_layer assoc_layer catch_layer clause_layer k) ∙ expr-same (out-ExprKind k) place
 
-item-same : (o : ItemLevel) → item_layer (map-ItemKind ExprKind ItemKind QualifierKind AssocKind CatchKind ClauseKind Expression Step Step Part Clause Clause expr_kind_part item_kind_step qualifier_kind_step assoc_kind_part catch_kind_part clause_kind_part o) ≡ item_at o
+item-same : (o : ItemLevel) → item_layer (map-ItemKind ExprKind ItemKind QualifierKind AssocKind CatchKind ClauseKind Expression Step Step Part Clause Clause expr_kind_part item_kind_step qualifier_kind_step assoc_kind_part catch_kind_clause clause_kind_part o) ≡ item_at o
 item-same (E.Value e) = refl
 item-same (E.Match p e) = refl
 
 pub item-out : (k : ItemKind) → item_kind_step k ≡ item_at (out-ItemKind k)
-unfolding expr_kind_part clause_kind_part item_kind_step qualifier_kind_step assoc_kind_part catch_kind_part
+unfolding expr_kind_part clause_kind_part item_kind_step qualifier_kind_step assoc_kind_part catch_kind_clause
 item-out k = fold_out-ItemKind Expression Step Step Part Clause Clause expr_layer item_layer qualifier_layer assoc_layer catch_layer clause_layer k ∙ item-same (out-ItemKind k)
 
-qualifier-same : (o : QualifierLevel) → qualifier_layer (map-QualifierKind ExprKind ItemKind QualifierKind AssocKind CatchKind ClauseKind Expression Step Step Part Clause Clause expr_kind_part item_kind_step qualifier_kind_step assoc_kind_part catch_kind_part clause_kind_part o) ≡ qualifier_at o
+qualifier-same : (o : QualifierLevel) → qualifier_layer (map-QualifierKind ExprKind ItemKind QualifierKind AssocKind CatchKind ClauseKind Expression Step Step Part Clause Clause expr_kind_part item_kind_step qualifier_kind_step assoc_kind_part catch_kind_clause clause_kind_part o) ≡ qualifier_at o
 qualifier-same (E.Generator p e) = refl
 qualifier-same (E.Filter e) = refl
 
 pub qualifier-out : (k : QualifierKind) → qualifier_kind_step k ≡ qualifier_at (out-QualifierKind k)
-unfolding expr_kind_part clause_kind_part item_kind_step qualifier_kind_step assoc_kind_part catch_kind_part
+unfolding expr_kind_part clause_kind_part item_kind_step qualifier_kind_step assoc_kind_part catch_kind_clause
 qualifier-out k = fold_out-QualifierKind Expression Step Step Part Clause Clause expr_layer item_layer qualifier_layer assoc_layer catch_layer clause_layer k ∙ qualifier-same (out-QualifierKind k)
 
 pub assoc-out : (k : AssocKind) → assoc_kind_part k ≡ assoc_at (out-AssocKind k)
-unfolding expr_kind_part clause_kind_part item_kind_step qualifier_kind_step assoc_kind_part catch_kind_part
+unfolding expr_kind_part clause_kind_part item_kind_step qualifier_kind_step assoc_kind_part catch_kind_clause
 assoc-out k = fold_out-AssocKind Expression Step Step Part Clause Clause expr_layer item_layer qualifier_layer assoc_layer catch_layer clause_layer k
 
-pub catch-out : (k : CatchKind) (role : Role) (front : List (Node PatternKind)) → catch_kind_part k role front ≡ catch_at (out-CatchKind k) role front
-unfolding expr_kind_part clause_kind_part item_kind_step qualifier_kind_step assoc_kind_part catch_kind_part
+pub catch-out : (k : CatchKind) (role : Role) (front : List (Node PatternKind)) → catch_kind_clause k role front ≡ catch_at (out-CatchKind k) role front
+unfolding expr_kind_part clause_kind_part item_kind_step qualifier_kind_step assoc_kind_part catch_kind_clause
 catch-out k role front = ap (λ (f : Clause). f role front) (fold_out-CatchKind Expression Step Step Part Clause Clause expr_layer item_layer qualifier_layer assoc_layer catch_layer clause_layer k)
 
-clause-same : (o : ClauseLevel) (role : Role) (front : List (Node PatternKind)) → clause_layer (map-ClauseKind ExprKind ItemKind QualifierKind AssocKind CatchKind ClauseKind Expression Step Step Part Clause Clause expr_kind_part item_kind_step qualifier_kind_step assoc_kind_part catch_kind_part clause_kind_part o) role front ≡ clause_at o role front
+clause-same : (o : ClauseLevel) (role : Role) (front : List (Node PatternKind)) → clause_layer (map-ClauseKind ExprKind ItemKind QualifierKind AssocKind CatchKind ClauseKind Expression Step Step Part Clause Clause expr_kind_part item_kind_step qualifier_kind_step assoc_kind_part catch_kind_clause clause_kind_part o) role front ≡ clause_at o role front
 clause-same o role front = λ j. clause_from (row role (front ++ o.patterns)) (row_marks role (front ++ o.patterns)) (guard-is o.guard j) (body (steps-are o.body j))
 
 pub clause-out : (k : ClauseKind) (role : Role) (front : List (Node PatternKind)) → clause_kind_part k role front ≡ clause_at (out-ClauseKind k) role front
-unfolding expr_kind_part clause_kind_part item_kind_step qualifier_kind_step assoc_kind_part catch_kind_part
+unfolding expr_kind_part clause_kind_part item_kind_step qualifier_kind_step assoc_kind_part catch_kind_clause
 clause-out k role front = ap (λ (f : Clause). f role front) (fold_out-ClauseKind Expression Step Step Part Clause Clause expr_layer item_layer qualifier_layer assoc_layer catch_layer clause_layer k) ∙ clause-same (out-ClauseKind k) role front

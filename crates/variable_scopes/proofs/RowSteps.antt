@@ -8,7 +8,7 @@ use Rattle.erl_tree.specs.declared.pattern.LiteralKind.{LiteralKind}
 use Rattle.erl_tree.specs.declared.pattern.PatternKind.{PatternKind, out-PatternKind, roll-PatternKind, roll-out-PatternKind}
 use Rattle.erl_tree.specs.declared.pattern.PatternKind.TheVariants as Y
 use Rattle.erl_tree.specs.declared.pattern.PatternKind.TheOpen as P
-use Rattle.erl_runs.specs.Readable.{is_wildcard}
+use Rattle.erl_runs.specs.Names.{is_wildcard}
 use Rattle.scope_rules.specs.declared.role.Role.{Role}
 use Rattle.scope_rules.specs.Occurrences.{Mark, Occurrence, variables_of_each, pattern_kind_variables, variables_of, row_variables, row, row_marks}
 use Rattle.variable_scopes.specs.declared.walk.Walk.{Walk}

@@ -15,7 +15,7 @@ use Rattle.erl_tree.specs.declared.form.RecFieldKind.{RecFieldKind}
 use Rattle.erl_tree.specs.declared.form.TreeForm.{TreeForm}
 use Rattle.scope_rules.specs.declared.role.Role.{Role}
 use Rattle.scope_rules.specs.declared.resolved.Resolved.{Resolved}
-use Rattle.scope_rules.specs.Occurrences.{Mark, Occurrence, Part, Step, mark_behind, default_part, form_occurrences, optional, variables_of}
+use Rattle.scope_rules.specs.Occurrences.{Mark, Occurrence, Part, Step, mark_behind, default_part, form_occurrences, optional, variables_of, item_step, qualifier_step, expr_part, field_part, assoc_part, clause_part}
 use Rattle.scope_rules.specs.Bindings.{innermost}
 use Rattle.scope_rules.specs.ScopeFaults.{stands_among}
 use Rattle.scope_rules.specs.Resolution.{resolved_as, all_resolved_in}
@@ -23,7 +23,7 @@ use Rattle.scope_stack.specs.State.{nothing, above, below, with_mark, with_body_
 use Rattle.variable_scopes.specs.declared.walk.Walk.{Walk}
 use Rattle.variable_scopes.specs.declared.walk.Start.{Start}
 use Rattle.variable_scopes.specs.declared.rows.Row.{Row}
-use Rattle.variable_scopes.specs.Nodes.{expression_part, field_part, association_part, item_step, qualifier_step, clause_node_part, catch_node_part, entry_variables, field_variables}
+use Rattle.variable_scopes.specs.Nodes.{catch_node_part, entry_variables, field_variables}
 
 -- what is known where nothing was read yet
 abbrev pub at_first : Walk
@@ -137,13 +137,13 @@ after_head occurrences marks w = record {
 -- ---- nodes
 
 abbrev pub after_expression : Node ExprKind → Walk → Walk
-after_expression e w = after_part (expression_part e) w
+after_expression e w = after_part (expr_part e) w
 
 abbrev pub after_field : Node (Name × Node ExprKind) → Walk → Walk
 after_field f w = after_part (field_part f) w
 
 abbrev pub after_association : Node AssocKind → Walk → Walk
-after_association a w = after_part (association_part a) w
+after_association a w = after_part (assoc_part a) w
 
 abbrev pub after_tests : List (Node ExprKind) → Walk → Walk
 after_tests es w = after_each after_expression es w
@@ -155,7 +155,7 @@ abbrev pub after_qualifier : Node QualifierKind → Walk → Walk
 after_qualifier q w = after_step (qualifier_step q) w
 
 abbrev pub after_clause : Role → Node ClauseKind → Walk → Walk
-after_clause role c w = after_beside (clause_node_part role c) w
+after_clause role c w = after_beside (clause_part role c) w
 
 abbrev pub after_catch : Node CatchKind → Walk → Walk
 after_catch c w = after_beside (catch_node_part c) w
@@ -167,7 +167,7 @@ after_generator q w = after_marks (qualifier_step q).binds w
 -- ---- forms
 
 abbrev pub after_default_expression : Option (Node ExprKind) → Walk → Walk
-after_default_expression o w = after_occurrences (optional expression_part o).occurrences w
+after_default_expression o w = after_occurrences (optional expr_part o).occurrences w
 
 abbrev pub after_default : Node RecFieldKind → Walk → Walk
 after_default f w = after_occurrences (default_part f).occurrences w

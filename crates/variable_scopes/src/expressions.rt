@@ -1,7 +1,7 @@
 //! Expressions, bodies and clauses, in text order.
 
 ghost use Rattle.std.specs.Prelude.{◌≡◌, [], map, OnOk};
-ghost use Rattle.scope_rules.specs.Occurrences.{expr_kind_part, clause_kind_part, comprehension, optional, class_patterns};
+ghost use Rattle.scope_rules.specs.Occurrences.{expr_kind_part, clause_kind_part, item_kind_step, qualifier_kind_step, comprehension, optional, class_patterns};
 ghost use Rattle.erl_tree.specs.declared.expr.ClauseKind.{out-ClauseKind};
 ghost use Rattle.variable_scopes.specs.Nodes as nodes;
 ghost use Rattle.variable_scopes.specs.Walks as walks;
@@ -28,7 +28,7 @@ fn see_generators(alloc: Global, walk: &mut Walk, qualifiers: &[Qualifier]) -> R
 
 /// The variables of a generator's pattern are seen from here on; a filter has none.
 fn see_generator(alloc: Global, walk: &mut Walk, kind: &QualifierKind) -> Result<(), NoMemory>
-    ensures { OnOk result (walk.new ≡ walks.after_marks (nodes.qualifier_kind_step kind.now).binds walk.old) }
+    ensures { OnOk result (walk.new ≡ walks.after_marks (qualifier_kind_step kind.now).binds walk.old) }
 {
     match kind {
         QualifierKind::Generator(pattern, _) => { see_pattern(alloc, walk, Role::Renewed, pattern) }
@@ -200,7 +200,7 @@ fn visit_items(alloc: Global, walk: &mut Walk, items: &[Item]) -> Result<(), NoM
 
 #[cycle(walk)]
 fn visit_item(alloc: Global, walk: &mut Walk, kind: &ItemKind) -> Result<(), NoMemory>
-    ensures { OnOk result (walk.new ≡ walks.after_step (nodes.item_kind_step kind.now) walk.old) }
+    ensures { OnOk result (walk.new ≡ walks.after_step (item_kind_step kind.now) walk.old) }
 {
     match kind {
         ItemKind::Value(value) => visit(alloc, walk, value.kind.get(), value.place),
@@ -229,7 +229,7 @@ fn visit_qualifiers(
 
 #[cycle(walk)]
 fn visit_qualifier(alloc: Global, walk: &mut Walk, kind: &QualifierKind) -> Result<(), NoMemory>
-    ensures { OnOk result (walk.new ≡ walks.after_step (nodes.qualifier_kind_step kind.now) walk.old) }
+    ensures { OnOk result (walk.new ≡ walks.after_step (qualifier_kind_step kind.now) walk.old) }
 {
     match kind {
         QualifierKind::Filter(test) => visit(alloc, walk, test.kind.get(), test.place),

@@ -1,7 +1,7 @@
 //! Rows of patterns.
 
 ghost use Rattle.std.specs.Prelude.{◌≡◌, [], ◌∷◌, ◌++◌, codes, IfOk, OnOk};
-ghost use Rattle.erl_runs.specs.Readable.{is_wildcard as is_wildcard_name};
+ghost use Rattle.erl_runs.specs.Names.{is_wildcard as is_wildcard_name};
 ghost use Rattle.scope_rules.specs.Occurrences.{role_behind, is_named_among, pattern_kind_variables, row, row_marks, class_patterns};
 ghost use Rattle.scope_stack.specs.State.{above};
 ghost use Rattle.variable_scopes.specs.Walks as walks;

@@ -1,5 +1,5 @@
 use Rattle.std.proofs.Common.{◌∙◌, sym, ap, arith}
-use Rattle.erl_runs.specs.Readable.{is_built_in}
+use Rattle.erl_runs.specs.Names.{is_built_in}
 use Rattle.erl_tree.specs.Functions.{of_function}
 use Rattle.built_ins.proofs.BuiltIns.{of_two, of_others}
 use Rattle.built_ins.proofs.is_built_in_function.Goals as goal

@@ -1,7 +1,7 @@
 use Rattle.std.proofs.Common.{◌≡◌, sym, ◌∙◌}
 use Rattle.std.specs.Prelude.{false}
 use Rattle.std.specs.Str.{bytes_eq}
-use Rattle.erl_runs.specs.Readable.{is_wildcard}
+use Rattle.erl_runs.specs.Names.{is_wildcard}
 use Rattle.cert_checker.proofs.BoundVariables.{named-variable}
 use Rattle.cert_checker.proofs.variables.is_variable.Goals as goal
 

@@ -1,7 +1,7 @@
 use Rattle.std.proofs.Common.{◌≡◌, ◌∙◌, ◌∷◌, ◌||◌, not, refl, ap, sym, subst}
 use Rattle.std.specs.List.{list_any}
 use Rattle.erl_tree.specs.Functions.{FunctionId, of_function, function_id}
-use Rattle.erl_runs.specs.Readable.{same_id, is_built_in}
+use Rattle.erl_runs.specs.Names.{same_id, is_built_in}
 use Rattle.function_table.specs.Table.{ids}
 use Rattle.scope_rules.specs.declared.fault.NameFault.TheVariants.{TwoFunctions, NoSpec}
 use Rattle.scope_rules.specs.ScopeFaults.{unless}

@@ -1,7 +1,7 @@
 use Rattle.std.proofs.Common.{◌∙◌, ◌∷◌, [], refl, ap, sym, subst, arith}
 use Rattle.std.specs.List.{list_any}
 use Rattle.erl_tree.specs.Functions.{of_function}
-use Rattle.erl_runs.specs.Readable.{same_id}
+use Rattle.erl_runs.specs.Names.{same_id}
 use Rattle.function_table.specs.Table.{ids}
 use Rattle.scope_rules.specs.ScopeFaults.{defined_by}
 use Rattle.name_checks.specs.Bounds.{AreBounded}

@@ -1,7 +1,7 @@
 use Rattle.std.proofs.Common.{◌∙◌, ◌∷◌, [], refl, ap, sym}
 use Rattle.std.specs.List.{list_any}
 use Rattle.erl_tree.specs.Functions.{of_function, spec_clauses_arity}
-use Rattle.erl_runs.specs.Readable.{same_id}
+use Rattle.erl_runs.specs.Names.{same_id}
 use Rattle.function_table.specs.Table.{ids}
 use Rattle.scope_rules.specs.ScopeFaults.{specified_by, specified_in}
 use Rattle.name_checks.proofs.TableLaws.{gathered_next, adds_one, adds_none, not_specified}

@@ -1,7 +1,0 @@
-use Rattle.function_table.specs.Table.{ids}
-use Rattle.erl_scope.specs.Names.{ExpressionCallsOnly}
-use Rattle.erl_scope.proofs.ForEach.{IsLeft}
-use Rattle.erl_scope.proofs.calls.+called.Given as goal
-
-abbrev pub invariant-expressions_call_only_defined-loop-expression : goal.invariant-expressions_call_only_defined-loop-expression
-invariant-expressions_call_only_defined-loop-expression l = IsLeft (ExpressionCallsOnly (ids l.table)) l.expressions l.expression-index

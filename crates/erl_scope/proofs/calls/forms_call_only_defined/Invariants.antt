@@ -1,7 +1,0 @@
-use Rattle.function_table.specs.Table.{ids}
-use Rattle.erl_scope.specs.Names.{FormCallsOnly}
-use Rattle.erl_scope.proofs.ForEach.{IsLeft}
-use Rattle.erl_scope.proofs.calls.forms_call_only_defined.Given as goal
-
-abbrev pub invariant-loop-form : goal.invariant-loop-form
-invariant-loop-form l = IsLeft (FormCallsOnly (ids l.table)) l.forms l.form-index

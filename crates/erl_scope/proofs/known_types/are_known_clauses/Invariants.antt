@@ -1,7 +1,0 @@
-use Rattle.std.specs.Prelude.{IsSome}
-use Rattle.erl_runs.specs.Specs.{clause_arrow}
-use Rattle.erl_scope.proofs.ForEach.{IsLeft}
-use Rattle.erl_scope.proofs.known_types.are_known_clauses.Given as goal
-
-abbrev pub invariant-loop-clause : goal.invariant-loop-clause
-invariant-loop-clause l = IsLeft (λ clause. IsSome (clause_arrow clause)) l.clauses l.clause-index

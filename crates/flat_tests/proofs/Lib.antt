@@ -1,0 +1,10 @@
+pub mod ForEach
+pub mod Variables
+pub mod Everywhere
+pub mod OneLevel
+pub mod Parts
+pub mod DefinedCalls
+pub mod SpecTerms
+pub mod KnownTypes
+pub mod FunctionNames
+pub mod FlatTests

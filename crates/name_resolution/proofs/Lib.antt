@@ -1,4 +1,0 @@
-mod FaultOrder
-mod FirstOfTwo
-mod FirstFaults
-mod OneFirst

@@ -1,5 +1,0 @@
-use Rattle.name_resolution.proofs.FirstFaults.{IsFirstBefore}
-use Rattle.name_resolution.proofs.first.first_of_variables.Given as goal
-
-abbrev pub invariant-variables : goal.invariant-variables
-invariant-variables l = IsFirstBefore l.found l.variable-index l.first

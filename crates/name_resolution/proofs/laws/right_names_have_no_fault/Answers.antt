@@ -1,8 +1,0 @@
-use Rattle.std.proofs.Common.{None, ap}
-use Rattle.scope_rules.specs.ScopeFaults.{faults_of}
-use Rattle.scope_rules.specs.Earliest.{earliest}
-use Rattle.scope_rules.proofs.EarliestLaws.{earliest-none}
-use Rattle.name_resolution.proofs.laws.right_names_have_no_fault.Goals as goal
-
-pub returns-clause-none : goal.returns-clause-none
-returns-clause-none c m = (λ e. earliest-none (faults_of m) e, λ e. ap (earliest None) e)
