@@ -1,0 +1,6 @@
+pub mod TypeRuleLaws
+pub mod VariableLaws
+pub mod TypeExamples
+pub mod ModuleExamples
+pub mod RightTypes
+pub mod FlatTerms

@@ -1,0 +1,12 @@
+pub mod TypeParts
+pub mod BuiltInTypes
+pub mod Declared
+pub mod TypeTerms
+pub mod TypeVariables
+pub mod Bounds
+pub mod SpecTerms
+pub mod RegularUse
+pub mod RecordDefaults
+pub mod TypeFaults
+pub mod SmallTypes
+pub mod SmallModules
