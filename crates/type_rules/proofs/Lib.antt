@@ -3,4 +3,3 @@ pub mod VariableLaws
 pub mod TypeExamples
 pub mod ModuleExamples
 pub mod RightTypes
-pub mod FlatTerms

@@ -18,14 +18,18 @@ use Rattle.erl_tree.specs.declared.type_expr.TypeKind.{TypeKind}
 use Rattle.erl_tree.specs.declared.form.SpecClauseKind.{SpecClauseKind}
 use Rattle.erl_runs.specs.Specs.{all_present}
 use Rattle.erl_tree.specs.Lists.{Among}
-use Rattle.type_rules.specs.Declared.{nothing_declared, declarations_of, type_number, record_number}
+use Rattle.type_rules.specs.Declarations.{nothing_declared, declarations_of, type_number, record_number}
 use Rattle.type_rules.specs.TypeTerms.{type_term}
 use Rattle.type_rules.specs.TypeVariables.{parameters}
 use Rattle.type_rules.specs.Bounds.{bound_graph, IsCyclic}
-use Rattle.type_rules.specs.SpecTerms.{ModuleSpecs, definitions, record_specs, module_specs}
+use Rattle.type_rules.specs.declared.specs.Specs.{Specs}
+use Rattle.type_rules.specs.SpecTerms.{definitions, record_specs, module_specs}
 use Rattle.type_rules.specs.RecordDefaults.{DefaultPart, default_part, may_be}
 use Rattle.type_rules.specs.RegularUse.{Declaration, given_declaration, arguments_of, mention_graph, expansion_graph, mentioned_by, expanded_by, all_types, by_number, IsNotRegular, PassesParameters, PassesOthers, IsInfinite}
-use Rattle.type_rules.specs.TypeFaults.{PlacedFault, listed_faults, IsTextFault, IsFirstFault, HasSpecs, not_contractive, of_specs, of_definitions, at_one_place, negated_fun, bound_leads_back, not_regular as is_not_regular, no_such_type, repeated, out_of_profile, arity_differs, record_default, cyclic_bound, non_regular_type}
+use Rattle.type_rules.specs.declared.fault.PlacedFault.{PlacedFault}
+use Rattle.type_rules.specs.declared.fault.TypeFault.TheVariants.{NotContractive, NegatedFun, NoSuchType, Repeated, OutOfProfile, ArityDiffers}
+use Rattle.type_rules.specs.declared.fault.Outside.TheVariants.{RecordDefault, CyclicBound, NonRegularType}
+use Rattle.type_rules.specs.TypeFaults.{listed_faults, IsTextFault, IsFirstFault, HasSpecs, of_specs, of_definitions, at_one_place, bound_leads_back, not_regular as is_not_regular}
 use Rattle.type_rules.specs.SmallModules.{in_line, fault, function_specs_of, name_t, name_r, types_and_a_record, parameter_twice, unknown_type, no_parameter, variable_in_a_record, no_such_field, type_twice, reserved_name, record_twice, wrong_default, right_default, bounded_once, bounded_twice, bound_with_a_variable, bounds_in_a_row, unused_bound, two_clauses, clauses_and_specs_differ, two_bounds, bound_on_itself, not_regular, infinite_record, negated_variable, atom_a, letter_a, own_bound, clause_with_own_bound, right_tuple, irregular_use, irregular_body, irregular_declaration, record_in_itself, infinite_declaration, negating_clause, negating_arrow, negating_specs, own_alternative, own_use, own_union, own_definition, own_specs, own_declaration, once_specs, bounds_once, regular, regular_use, regular_body, regular_declaration, variable}
 use Rattle.type_rules.proofs.TypeRuleLaws.{type_term_equations, inside_equations}
 use Rattle.type_rules.proofs.VariableLaws.{holds_equations, default-Int, default-Atom, default-Plus, default-Tuple}
@@ -35,14 +39,14 @@ use Rattle.type_rules.proofs.VariableLaws.{holds_equations, default-Int, default
 no_truth : {A : Type 0} → ⊥ → A
 no_truth e = absurd (e)
 
-wrong_default_is : listed_faults wrong_default ≡ fault (out_of_profile record_default) 2 17 ∷ []
-wrong_default_is = ap (λ (p : DefaultPart). (cond p.default [] (fault (out_of_profile record_default) 2 17 ∷ []) ++ []) ++ []) (default-Plus _)
+wrong_default_is : listed_faults wrong_default ≡ fault (OutOfProfile RecordDefault) 2 17 ∷ []
+wrong_default_is = ap (λ (p : DefaultPart). (cond p.default [] (fault (OutOfProfile RecordDefault) 2 17 ∷ []) ++ []) ++ []) (default-Plus _)
 
 tuple_default : default_part right_tuple ≡ may_be true
 tuple_default = default-Tuple _ ∙ (λ j. may_be ((default-Atom (codes "a") j).default && ((default-Int (pos 1) j).default && true)))
 
 right_default_is : listed_faults right_default ≡ []
-right_default_is = ap (λ (p : DefaultPart). (cond p.default [] (fault (out_of_profile record_default) 2 17 ∷ []) ++ []) ++ []) tuple_default
+right_default_is = ap (λ (p : DefaultPart). (cond p.default [] (fault (OutOfProfile RecordDefault) 2 17 ∷ []) ++ []) ++ []) tuple_default
 
 own_bound_graph : bound_graph (own_bound ∷ []) ≡ (0 ∷ []) ∷ []
 own_bound_graph = simp (inside_equations)
@@ -128,7 +132,7 @@ negated_no_fault _ (is_not_regular t r) = all_regular t r
 negated_terms : module_specs negated_variable ≡ Some negating_specs
 negated_terms = simp (type_term_equations, inside_equations, holds_equations)
 
-negated : IsFirstFault negated_variable (fault negated_fun 2 8)
+negated : IsFirstFault negated_variable (fault NegatedFun 2 8)
 negated = of_specs negating_specs (record { no_fault = negated_no_fault; terms = negated_terms }) given.contractive (record {
   number = 0;
   clause = negating_clause;
@@ -236,7 +240,7 @@ given_reach : (n m : ℕ) → Reaches own_specs.defs n m → n < 2 → ⊥
 given_reach _ _ (directly n m def args e b) l = given_name n def (NameTerm m args) e b l refl
 given_reach _ _ (by_way_of n k m r q) l = given_reach n k r l
 
-alternative : IsFirstFault own_alternative (fault not_contractive 2 7)
+alternative : IsFirstFault own_alternative (fault NotContractive 2 7)
 alternative = of_definitions own_specs (record { no_fault = own_no_fault; terms = own_terms }) (record {
   index = 0;
   place = in_line 2 7;
@@ -285,7 +289,7 @@ once_right = record {
   well_signed = (((ints-well-signed _ _ _, tt), ints-well-signed _ _ _), tt);
 }
 
-once_only : (s : ModuleSpecs) → HasSpecs bounded_once s → s ≡ once_specs
+once_only : (s : Specs) → HasSpecs bounded_once s → s ≡ once_specs
 once_only s h = ap (λ o. unwrap_or o once_specs) (sym h.terms.terms ∙ once_terms)
 
 -- ---- a type that passes its own parameters
@@ -400,28 +404,28 @@ variables_of_specs-two_clauses = simp (type_term_equations, inside_equations, ho
 
 -- ---- faults of declarations
 
-pub faults_of_declarations-unknown_type : listed_faults unknown_type ≡ fault no_such_type 2 14 ∷ []
+pub faults_of_declarations-unknown_type : listed_faults unknown_type ≡ fault NoSuchType 2 14 ∷ []
 faults_of_declarations-unknown_type = simp (inside_equations)
 
-pub faults_of_declarations-no_parameter : listed_faults no_parameter ≡ fault no_such_type 2 14 ∷ []
+pub faults_of_declarations-no_parameter : listed_faults no_parameter ≡ fault NoSuchType 2 14 ∷ []
 faults_of_declarations-no_parameter = simp (inside_equations)
 
-pub faults_of_declarations-variable_in_a_record : listed_faults variable_in_a_record ≡ fault no_such_type 2 18 ∷ []
+pub faults_of_declarations-variable_in_a_record : listed_faults variable_in_a_record ≡ fault NoSuchType 2 18 ∷ []
 faults_of_declarations-variable_in_a_record = simp (inside_equations)
 
-pub faults_of_declarations-no_such_field : listed_faults no_such_field ≡ fault no_such_type 3 17 ∷ []
+pub faults_of_declarations-no_such_field : listed_faults no_such_field ≡ fault NoSuchType 3 17 ∷ []
 faults_of_declarations-no_such_field = simp (inside_equations)
 
-pub faults_of_declarations-type_twice : listed_faults type_twice ≡ fault repeated 3 1 ∷ []
+pub faults_of_declarations-type_twice : listed_faults type_twice ≡ fault Repeated 3 1 ∷ []
 faults_of_declarations-type_twice = simp (inside_equations)
 
-pub faults_of_declarations-reserved_name : listed_faults reserved_name ≡ fault repeated 2 1 ∷ []
+pub faults_of_declarations-reserved_name : listed_faults reserved_name ≡ fault Repeated 2 1 ∷ []
 faults_of_declarations-reserved_name = simp (inside_equations)
 
-pub faults_of_declarations-record_twice : listed_faults record_twice ≡ fault repeated 2 16 ∷ fault repeated 3 1 ∷ []
+pub faults_of_declarations-record_twice : listed_faults record_twice ≡ fault Repeated 2 16 ∷ fault Repeated 3 1 ∷ []
 faults_of_declarations-record_twice = refl
 
-pub faults_of_declarations-wrong_default : listed_faults wrong_default ≡ fault (out_of_profile record_default) 2 17 ∷ []
+pub faults_of_declarations-wrong_default : listed_faults wrong_default ≡ fault (OutOfProfile RecordDefault) 2 17 ∷ []
 faults_of_declarations-wrong_default = wrong_default_is
 
 pub faults_of_declarations-right_default : listed_faults right_default ≡ []
@@ -429,24 +433,24 @@ faults_of_declarations-right_default = right_default_is
 
 -- ---- faults of specs
 
-pub faults_of_specs-clauses_and_specs_differ : listed_faults clauses_and_specs_differ ≡ fault arity_differs 2 18 ∷ fault repeated 3 1 ∷ []
+pub faults_of_specs-clauses_and_specs_differ : listed_faults clauses_and_specs_differ ≡ fault ArityDiffers 2 18 ∷ fault Repeated 3 1 ∷ []
 faults_of_specs-clauses_and_specs_differ = simp (inside_equations)
 
-pub faults_of_specs-two_bounds : listed_faults two_bounds ≡ fault repeated 2 8 ∷ []
+pub faults_of_specs-two_bounds : listed_faults two_bounds ≡ fault Repeated 2 8 ∷ []
 faults_of_specs-two_bounds = simp (inside_equations)
 
 pub faults_of_specs-bounded_once : listed_faults bounded_once ≡ []
 faults_of_specs-bounded_once = simp (inside_equations)
 
-pub faults_of_specs-bound_on_itself : IsTextFault bound_on_itself (fault (out_of_profile cyclic_bound) 2 8)
+pub faults_of_specs-bound_on_itself : IsTextFault bound_on_itself (fault (OutOfProfile CyclicBound) 2 8)
 faults_of_specs-bound_on_itself = bound_leads_back clause_with_own_bound (inl refl) own_bound_cyclic
 
 -- ---- regular uses
 
-pub regular_uses-not_regular : IsTextFault not_regular (fault (out_of_profile non_regular_type) 2 16)
+pub regular_uses-not_regular : IsTextFault not_regular (fault (OutOfProfile NonRegularType) 2 16)
 regular_uses-not_regular = is_not_regular irregular_use irregular
 
-pub regular_uses-infinite_record : IsTextFault infinite_record (fault (out_of_profile non_regular_type) 2 21)
+pub regular_uses-infinite_record : IsTextFault infinite_record (fault (OutOfProfile NonRegularType) 2 21)
 regular_uses-infinite_record = is_not_regular record_in_itself infinite
 
 pub regular_uses-regular : (f : PlacedFault) → IsTextFault regular f → ⊥
@@ -454,10 +458,10 @@ regular_uses-regular = regular_no_fault
 
 -- ---- faults of terms
 
-pub faults_of_terms-negated_variable : IsFirstFault negated_variable (fault negated_fun 2 8)
+pub faults_of_terms-negated_variable : IsFirstFault negated_variable (fault NegatedFun 2 8)
 faults_of_terms-negated_variable = negated
 
-pub faults_of_terms-own_alternative : IsFirstFault own_alternative (fault not_contractive 2 7)
+pub faults_of_terms-own_alternative : IsFirstFault own_alternative (fault NotContractive 2 7)
 faults_of_terms-own_alternative = alternative
 
 -- ---- right modules
@@ -465,5 +469,5 @@ faults_of_terms-own_alternative = alternative
 pub right_modules-bounded_once : HasSpecs bounded_once once_specs
 right_modules-bounded_once = once_right
 
-pub right_modules-once_alone : (s : ModuleSpecs) → HasSpecs bounded_once s → s ≡ once_specs
+pub right_modules-once_alone : (s : Specs) → HasSpecs bounded_once s → s ≡ once_specs
 right_modules-once_alone = once_only

@@ -18,9 +18,13 @@ use Rattle.erl_runs.specs.Records.{find_record}
 use Rattle.erl_runs.specs.Specs.{and_then, all_present}
 use Rattle.type_rules.specs.TypeParts.{Inside, from_each, with_inside, inside_layer, inside_map_part_kind, types_within}
 use Rattle.type_rules.specs.BuiltInTypes.{list_of, nonempty_list_of, built_in_term, is_built_in_name, is_out_of_profile, is_built_in_type}
-use Rattle.type_rules.specs.Declared.{Declarations, position, type_number}
+use Rattle.type_rules.specs.Declarations.{Declarations, position, type_number}
 use Rattle.type_rules.specs.TypeTerms.{MapKey, this_key, integer_keys, atom_keys, no_key, map_key, entry_of, MapEntry, RecordTuple, tuple_term, with_fields, named_term, set_operation, is_set_operation, prefixed_term, is_prefixed_type, used_term, terms, term_layer, map_part_entry}
-use Rattle.type_rules.specs.TypeFaults.{PlacedFault, TypeFault, no_such_type, out_of_profile, type_outside, fault_at, unless, is_key, part_key, key_faults, keys_faults, fields_faults, use_faults, fault_layer, own_faults, type_faults}
+use Rattle.type_rules.specs.declared.fault.PlacedFault.{PlacedFault}
+use Rattle.type_rules.specs.declared.fault.TypeFault.{TypeFault}
+use Rattle.type_rules.specs.declared.fault.TypeFault.TheVariants.{NoSuchType, OutOfProfile}
+use Rattle.type_rules.specs.declared.fault.Outside.TheVariants.{UnusableType}
+use Rattle.type_rules.specs.TypeFaults.{fault_at, unless, is_key, part_key, key_faults, keys_faults, fields_faults, use_faults, fault_layer, own_faults, type_faults}
 use Rattle.type_rules.proofs.TypeRuleLaws.{of_kind, of_node, of_part, of_field, with_term, with_entry, with_all, part_with_all, term-rolls, entry-rolls, terms-are, entries-are, fields-are, inside-rolls, inside_part-rolls, inside-each, inside-parts, inside-fields}
 
 -- ---- what is there
@@ -99,7 +103,7 @@ number-some false o built own f e = map-some f o e
 pub used-some : (declared : Declarations) (name : Name) (own : List Term) (p : Place) → use_faults declared name (length own) p ≡ [] → is_some (used_term declared name own) ≡ true
 used-some declared name own p e = go (is_out_of_profile name) e
   where
-    go : (b : Bool) → cond b (fault_at (out_of_profile type_outside) p ∷ []) (unless (is_built_in_type name (length own) || is_some (type_number declared name (length own))) no_such_type p) ≡ [] → is_some (used_term declared name own) ≡ true
+    go : (b : Bool) → cond b (fault_at (OutOfProfile UnusableType) p ∷ []) (unless (is_built_in_type name (length own) || is_some (type_number declared name (length own))) NoSuchType p) ≡ [] → is_some (used_term declared name own) ≡ true
     go true q = absurd (cc)
     go false q = or-parts (is_built_in_type name (length own)) (is_some (type_number declared name (length own))) (unless-true _ _ _ q)
         (λ h. taken (is_built_in_name name) _ _ (built_in-some name own h).0 (built_in-some name own h).1)
@@ -226,7 +230,7 @@ module _ (declared : Declarations) (tuples : Name → Option RecordTuple) (varia
       let h = nil-parts (use_faults declared name (length (plain_list args)) p) _ e in
       arguments-right args _ h.1 (λ own' q. used-some declared name own' p (subst (λ n. use_faults declared name n p ≡ []) (sym q) h.0))
   layer-right (O.Use (Some prefix) name args) p e =
-      let h = nil-parts (unless (is_prefixed_type prefix name (length (plain_list args))) no_such_type p) _ e in
+      let h = nil-parts (unless (is_prefixed_type prefix name (length (plain_list args))) NoSuchType p) _ e in
       arguments-right args _ h.1 (λ own' q. prefixed-some prefix name own' (subst (λ n. is_prefixed_type prefix name n ≡ true) (sym q) (unless-true _ _ _ h.0)))
   layer-right O.Nil p e = refl
   layer-right (O.ListOf t) p e = map-some _ _ (node-right t e)
@@ -241,7 +245,7 @@ module _ (declared : Declarations) (tuples : Name → Option RecordTuple) (varia
       arguments-right params _ h.0 (λ own' q. map-some _ _ (node-right result h.1))
   layer-right (O.Rec name tag []) p e = map-some _ _ (map-some _ _ (found-number declared.records name (unless-true _ _ _ (nil-parts _ _ (nil-parts _ _ e).0).0)))
   layer-right (O.Rec name tag (f ∷ fs)) p e =
-      let h = nil-parts (unless (is_some (find_record declared.records name)) no_such_type p ++ fields_faults (find_record declared.records name) [] (plain_fields (f ∷ fs))) _ e in
+      let h = nil-parts (unless (is_some (find_record declared.records name)) NoSuchType p ++ fields_faults (find_record declared.records name) [] (plain_fields (f ∷ fs))) _ e in
       subst (λ o. is_some (and_then o (λ given. option_map (λ r. tuple_term (with_fields given r)) (tuples name))) ≡ true) (sym (fields-are declared tuples variables (plain_fields (f ∷ fs))))
       (then-some (all_present (map (of_field declared tuples variables) (plain_fields (f ∷ fs)))) _ (fields-right (f ∷ fs) (subst (λ i. from_each own i ≡ []) (inside-fields (plain_fields (f ∷ fs))) h.1)) (λ given q. map-some _ _ (tuples-there name (unless-true _ _ _ (nil-parts _ _ h.0).0))))
 

@@ -6,16 +6,18 @@ use Rattle.type_terms.specs.declared.term.Key.TheVariants.{Int as IntKey, Atom a
 use Rattle.erl_tree.specs.declared.type_expr.TypeKind.TheVariants as Y
 use Rattle.erl_tree.specs.Lists.{Among, Every}
 use Rattle.type_rules.specs.BuiltInTypes.{list_of, nonempty_list_of}
-use Rattle.type_rules.specs.Declared.{nothing_declared}
+use Rattle.type_rules.specs.Declarations.{nothing_declared}
 use Rattle.type_rules.specs.SpecTerms.{term_behind}
-use Rattle.type_rules.specs.TypeFaults.{repeated, bad_range, out_of_profile, map_key_outside, type_outside, no_such_type, is_earlier, IsFirstTypeFault}
+use Rattle.type_rules.specs.declared.fault.TypeFault.TheVariants.{Repeated, BadRange, OutOfProfile, NoSuchType}
+use Rattle.type_rules.specs.declared.fault.Outside.TheVariants.{MapKey, UnusableType}
+use Rattle.type_rules.specs.TypeFaults.{is_earlier, IsFirstTypeFault}
 use Rattle.type_rules.specs.SmallTypes.{alone, wrong, fault, at, used, atom_a, atom_b, range_of_characters, empty_range, some_map, one_key_twice, key_in_parentheses, key_out_of_profile, required_rest, zero_twice, rest_twice, key_unknown}
 use Rattle.type_rules.proofs.TypeRuleLaws.{type_term_equations, inside_equations}
 
-out_of_profile_key_faults : wrong key_out_of_profile ≡ fault (out_of_profile map_key_outside) 3 ∷ fault (out_of_profile type_outside) 3 ∷ []
+out_of_profile_key_faults : wrong key_out_of_profile ≡ fault (OutOfProfile MapKey) 3 ∷ fault (OutOfProfile UnusableType) 3 ∷ []
 out_of_profile_key_faults = simp (inside_equations)
 
-unknown_key_faults : wrong key_unknown ≡ fault (out_of_profile map_key_outside) 3 ∷ fault no_such_type 3 ∷ []
+unknown_key_faults : wrong key_unknown ≡ fault (OutOfProfile MapKey) 3 ∷ fault NoSuchType 3 ∷ []
 unknown_key_faults = simp (inside_equations)
 
 -- ---- built in types
@@ -132,48 +134,48 @@ map_types-fields_and_rests = simp (type_term_equations, inside_equations)
 pub map_types-right : wrong some_map ≡ []
 map_types-right = simp (inside_equations)
 
-pub map_types-in_parentheses : wrong key_in_parentheses ≡ fault (out_of_profile map_key_outside) 3 ∷ []
+pub map_types-in_parentheses : wrong key_in_parentheses ≡ fault (OutOfProfile MapKey) 3 ∷ []
 map_types-in_parentheses = simp (inside_equations)
 
-pub map_types-required_rest : wrong required_rest ≡ fault (out_of_profile map_key_outside) 3 ∷ []
+pub map_types-required_rest : wrong required_rest ≡ fault (OutOfProfile MapKey) 3 ∷ []
 map_types-required_rest = simp (inside_equations)
 
-pub map_types-one_key_twice : wrong one_key_twice ≡ fault repeated 9 ∷ []
+pub map_types-one_key_twice : wrong one_key_twice ≡ fault Repeated 9 ∷ []
 map_types-one_key_twice = simp (inside_equations)
 
-pub map_types-zero_twice : wrong zero_twice ≡ fault repeated 8 ∷ []
+pub map_types-zero_twice : wrong zero_twice ≡ fault Repeated 8 ∷ []
 map_types-zero_twice = simp (inside_equations)
 
-pub map_types-rest_twice : wrong rest_twice ≡ fault repeated 16 ∷ []
+pub map_types-rest_twice : wrong rest_twice ≡ fault Repeated 16 ∷ []
 map_types-rest_twice = simp (inside_equations)
 
-pub map_types-out_of_profile_as_a_key : IsFirstTypeFault nothing_declared (at 1 key_out_of_profile) (fault (out_of_profile map_key_outside) 3)
-map_types-out_of_profile_as_a_key = record { stands = subst (λ fs. Among (fault (out_of_profile map_key_outside) 3) fs) (sym out_of_profile_key_faults) (inl refl); first = subst (λ fs. Every (λ g. is_earlier g (fault (out_of_profile map_key_outside) 3) ≡ false) fs) (sym out_of_profile_key_faults) (refl, (refl, tt)) }
+pub map_types-out_of_profile_as_a_key : IsFirstTypeFault nothing_declared (at 1 key_out_of_profile) (fault (OutOfProfile MapKey) 3)
+map_types-out_of_profile_as_a_key = record { stands = subst (λ fs. Among (fault (OutOfProfile MapKey) 3) fs) (sym out_of_profile_key_faults) (inl refl); first = subst (λ fs. Every (λ g. is_earlier g (fault (OutOfProfile MapKey) 3) ≡ false) fs) (sym out_of_profile_key_faults) (refl, (refl, tt)) }
 
-pub map_types-unknown_as_a_key : IsFirstTypeFault nothing_declared (at 1 key_unknown) (fault no_such_type 3)
-map_types-unknown_as_a_key = record { stands = subst (λ fs. Among (fault no_such_type 3) fs) (sym unknown_key_faults) (inr (inl refl)); first = subst (λ fs. Every (λ g. is_earlier g (fault no_such_type 3) ≡ false) fs) (sym unknown_key_faults) (refl, (refl, tt)) }
+pub map_types-unknown_as_a_key : IsFirstTypeFault nothing_declared (at 1 key_unknown) (fault NoSuchType 3)
+map_types-unknown_as_a_key = record { stands = subst (λ fs. Among (fault NoSuchType 3) fs) (sym unknown_key_faults) (inr (inl refl)); first = subst (λ fs. Every (λ g. is_earlier g (fault NoSuchType 3) ≡ false) fs) (sym unknown_key_faults) (refl, (refl, tt)) }
 
 -- ---- faults of types
 
-pub faults_of_types-empty_range : wrong empty_range ≡ fault bad_range 1 ∷ []
+pub faults_of_types-empty_range : wrong empty_range ≡ fault BadRange 1 ∷ []
 faults_of_types-empty_range = simp (inside_equations)
 
-pub faults_of_types-unknown : wrong (Y.ListOf (at 2 (used (codes "foo") []))) ≡ fault no_such_type 2 ∷ []
+pub faults_of_types-unknown : wrong (Y.ListOf (at 2 (used (codes "foo") []))) ≡ fault NoSuchType 2 ∷ []
 faults_of_types-unknown = simp (inside_equations)
 
-pub faults_of_types-other_arity : wrong (used (codes "integer") (atom_a 9 ∷ [])) ≡ fault no_such_type 1 ∷ []
+pub faults_of_types-other_arity : wrong (used (codes "integer") (atom_a 9 ∷ [])) ≡ fault NoSuchType 1 ∷ []
 faults_of_types-other_arity = simp (inside_equations)
 
-pub faults_of_types-out_of_profile : wrong (Y.Tuple (atom_a 2 ∷ at 4 (used (codes "pid") []) ∷ [])) ≡ fault (out_of_profile type_outside) 4 ∷ []
+pub faults_of_types-out_of_profile : wrong (Y.Tuple (atom_a 2 ∷ at 4 (used (codes "pid") []) ∷ [])) ≡ fault (OutOfProfile UnusableType) 4 ∷ []
 faults_of_types-out_of_profile = simp (inside_equations)
 
-pub faults_of_types-out_of_profile_at_any_arity : wrong (used (codes "pid") (atom_a 5 ∷ [])) ≡ fault (out_of_profile type_outside) 1 ∷ []
+pub faults_of_types-out_of_profile_at_any_arity : wrong (used (codes "pid") (atom_a 5 ∷ [])) ≡ fault (OutOfProfile UnusableType) 1 ∷ []
 faults_of_types-out_of_profile_at_any_arity = simp (inside_equations)
 
-pub faults_of_types-no_record : wrong (Y.Rec (codes "r") (codes "r") []) ≡ fault no_such_type 1 ∷ []
+pub faults_of_types-no_record : wrong (Y.Rec (codes "r") (codes "r") []) ≡ fault NoSuchType 1 ∷ []
 faults_of_types-no_record = simp (inside_equations)
 
-pub faults_of_types-other_prefix : wrong (Y.Use (Some (codes "ety")) (codes "union") []) ≡ fault no_such_type 1 ∷ []
+pub faults_of_types-other_prefix : wrong (Y.Use (Some (codes "ety")) (codes "union") []) ≡ fault NoSuchType 1 ∷ []
 faults_of_types-other_prefix = simp (inside_equations)
 
 pub faults_of_types-right : wrong (Y.Tuple (at 2 (Y.Var (codes "A")) ∷ at 4 (used (codes "atom") []) ∷ [])) ≡ []

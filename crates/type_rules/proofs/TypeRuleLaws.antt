@@ -16,7 +16,7 @@ use Rattle.erl_runs.specs.Names.{is_wildcard}
 use Rattle.erl_runs.specs.Specs.{and_then, all_present, one_integer}
 use Rattle.type_rules.specs.TypeParts.{Inside, from_each, with_inside, inside_layer, inside_map_part_layer, inside_kind, inside_map_part_kind, types_within}
 use Rattle.type_rules.specs.BuiltInTypes.{list_of, nonempty_list_of}
-use Rattle.type_rules.specs.Declared.{Declarations, record_number}
+use Rattle.type_rules.specs.Declarations.{Declarations, record_number}
 use Rattle.type_rules.specs.TypeTerms.{MapEntry, RecordTuple, range_term, map_term, map_key, entry_of, tuple_term, with_fields, used_term, prefixed_term, terms, entries, named_term, named_terms, term_layer, entry_layer, type_kind_term, map_part_entry}
 
 -- ---- terms

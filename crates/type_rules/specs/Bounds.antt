@@ -9,7 +9,7 @@ use Rattle.erl_tree.specs.declared.token.Node.{Node}
 use Rattle.erl_tree.specs.declared.type_expr.TypeKind.{TypeKind}
 use Rattle.erl_tree.specs.declared.form.SpecClauseKind.{SpecClauseKind}
 use Rattle.erl_runs.specs.Specs.{and_then}
-use Rattle.type_rules.specs.Declared.{Declarations}
+use Rattle.type_rules.specs.Declarations.{Declarations}
 use Rattle.type_rules.specs.TypeTerms.{type_term}
 use Rattle.type_rules.specs.TypeVariables.{variables_of, occurrences, clause_occurrences, place_among}
 

@@ -1,6 +1,6 @@
 pub mod TypeParts
 pub mod BuiltInTypes
-pub mod Declared
+pub mod Declarations
 pub mod TypeTerms
 pub mod TypeVariables
 pub mod Bounds
@@ -8,5 +8,6 @@ pub mod SpecTerms
 pub mod RegularUse
 pub mod RecordDefaults
 pub mod TypeFaults
+pub mod Earliest
 pub mod SmallTypes
 pub mod SmallModules

@@ -1,10 +1,8 @@
 -- The regular use of types: a type that leads back to the one in whose declaration it is used is used there with that one's own parameters. So a name has finitely many instances (this project's own rule; Frisch, Castagna, Benzaken 2008 ask for regular trees).
 use Rattle.std.specs.Prelude.{◌≡◌, ◌⊎◌, ℕ, suc, List, [], ◌∷◌, ◌++◌, map, length, slice_get, Option, Some, None as Nothing}
 use Rattle.type_terms.specs.Keys.{Name}
-use Rattle.type_terms.specs.Parts.{IsPart}
 use Rattle.type_terms.specs.Paths.{IsPath}
-use Rattle.type_terms.specs.declared.term.Def.{Def}
-use Rattle.type_terms.specs.declared.term.Term.{Term, Var, Name as NameTerm}
+use Rattle.type_terms.specs.declared.term.Term.{Term, Var}
 use Rattle.erl_tree.specs.declared.token.Node.{Node}
 use Rattle.erl_tree.specs.declared.type_expr.TypeKind.{TypeKind, out-TypeKind}
 use Rattle.erl_tree.specs.declared.type_expr.TypeKind.TheOpen as Y
@@ -15,7 +13,7 @@ use Rattle.erl_tree.specs.Lists.{Among}
 use Rattle.erl_runs.specs.Records.{fields_of}
 use Rattle.erl_runs.specs.Specs.{all_present}
 use Rattle.type_rules.specs.TypeParts.{from_each, types_within}
-use Rattle.type_rules.specs.Declared.{Declarations, type_number, record_number}
+use Rattle.type_rules.specs.Declarations.{Declarations, type_number, record_number}
 use Rattle.type_rules.specs.TypeTerms.{type_term}
 use Rattle.type_rules.specs.TypeVariables.{parameters}
 
@@ -114,18 +112,3 @@ pub record IsNotRegular (declared : Declarations) (t : Node TypeKind) : Type 0 w
   pub numbered : slice_get (by_number declared) number ≡ Some declaration
   pub inside : Among t (all_types declaration)
   pub why : PassesOthers declared number declaration t ⊎ IsInfinite declared number t
-
--- ---- regular definitions
-
--- definition n leads to m: a name m stands in its body, at any depth, or in a body to which it leads
-pub data LeadsTo (defs : List Def) : ℕ → ℕ → Type 0 where
-  mentions : (n m : ℕ) (def : Def) (arguments : List Term) → slice_get defs n ≡ Some def → IsPart (NameTerm m arguments) def.body → LeadsTo defs n m
-  onward : (n between m : ℕ) → LeadsTo defs n between → LeadsTo defs between m → LeadsTo defs n m
-
--- the parameters of a definition as terms
-abbrev pub AreParameters : ℕ → List Term → Type 0
-AreParameters count arguments = (length arguments ≡ count) × ((i : ℕ) (t : Term) → slice_get arguments i ≡ Some t → t ≡ Var i)
-
--- each name in a body that leads back to the body's own definition has that one's parameters as its arguments
-abbrev pub AreRegular : List Def → Type 0
-AreRegular defs = (n m : ℕ) (def : Def) (arguments : List Term) → slice_get defs n ≡ Some def → IsPart (NameTerm m arguments) def.body → LeadsTo defs m n → AreParameters def.params arguments

@@ -16,15 +16,18 @@ use Rattle.erl_tree.specs.declared.form.Module.{Module}
 use Rattle.erl_grammar.specs.Grammar.{node}
 use Rattle.type_terms.specs.declared.spec.FunSpec.{FunSpec}
 use Rattle.erl_runs.specs.Specs.{specs_in}
-use Rattle.type_rules.specs.Declared.{declarations_of}
-use Rattle.type_rules.specs.SpecTerms.{ModuleSpecs, function_specs}
+use Rattle.type_rules.specs.Declarations.{declarations_of}
+use Rattle.type_rules.specs.declared.specs.Specs.{Specs}
+use Rattle.type_rules.specs.SpecTerms.{function_specs}
 use Rattle.type_terms.specs.Definitions.{given_definitions}
 use Rattle.type_terms.specs.declared.spec.Arrow.{Arrow}
 use Rattle.type_terms.specs.declared.term.Def.{Def}
 use Rattle.type_terms.specs.declared.term.Term.{Ints, AtomLit, Or, Not, Var, Name as NameTerm}
 use Rattle.type_rules.specs.RegularUse.{Declaration}
 use Rattle.type_rules.specs.Bounds.{Bound}
-use Rattle.type_rules.specs.TypeFaults.{PlacedFault, TypeFault, fault_at}
+use Rattle.type_rules.specs.declared.fault.PlacedFault.{PlacedFault}
+use Rattle.type_rules.specs.declared.fault.TypeFault.{TypeFault}
+use Rattle.type_rules.specs.TypeFaults.{fault_at}
 use Rattle.type_rules.specs.SmallTypes.{used}
 
 -- ---- parts
@@ -147,8 +150,8 @@ abbrev pub bounded_once : Module
 bounded_once = module_of (spec_form 2 (clause 2 8 (variable (codes "X") 2 9 ∷ []) (variable (codes "Y") 2 15) bounds_once ∷ []) ∷ [])
 
 -- what it is
-abbrev pub once_specs : ModuleSpecs
-once_specs = record { defs = given_definitions; functions = record { name = codes "f"; arity = 1; vars = 0; clauses = record { params = Ints None None ∷ []; result = Ints None None } ∷ [] } ∷ []; records = [] }
+abbrev pub once_specs : Specs
+once_specs = record { defs = given_definitions; types = []; functions = record { name = codes "f"; arity = 1; vars = 0; clauses = record { params = Ints None None ∷ []; result = Ints None None } ∷ [] } ∷ []; records = [] }
 
 -- `-spec f(A) -> A when A :: [B].`
 abbrev pub bounded_twice : Module
@@ -199,8 +202,8 @@ negated_variable = module_of (spec_form 2 (negating_clause ∷ []) ∷ [])
 abbrev pub negating_arrow : Arrow
 negating_arrow = record { params = Not (Var 0) ∷ []; result = AtomLit (codes "a") }
 
-abbrev pub negating_specs : ModuleSpecs
-negating_specs = record { defs = given_definitions; functions = record { name = codes "f"; arity = 1; vars = 1; clauses = negating_arrow ∷ [] } ∷ []; records = [] }
+abbrev pub negating_specs : Specs
+negating_specs = record { defs = given_definitions; types = []; functions = record { name = codes "f"; arity = 1; vars = 1; clauses = negating_arrow ∷ [] } ∷ []; records = [] }
 
 -- ---- uses
 
@@ -257,8 +260,8 @@ own_alternative = module_of (type_form 2 name_t [] own_union ∷ [])
 abbrev pub own_definition : Def
 own_definition = record { params = 0; body = Or (NameTerm 2 [] ∷ AtomLit (codes "a") ∷ []) }
 
-abbrev pub own_specs : ModuleSpecs
-own_specs = record { defs = given_definitions ++ own_definition ∷ []; functions = []; records = [] }
+abbrev pub own_specs : Specs
+own_specs = record { defs = given_definitions ++ own_definition ∷ []; types = record { name = name_t; params = 0 } ∷ []; functions = []; records = [] }
 
 -- the specs of a small module
 abbrev pub function_specs_of : Module → Option (List FunSpec)

@@ -10,9 +10,11 @@ use Rattle.erl_tree.specs.SmallText.{place}
 use Rattle.erl_grammar.specs.Grammar.{node}
 use Rattle.erl_grammar.specs.TypeGrammar.{map_part_of}
 use Rattle.type_terms.specs.declared.term.Term.{Term}
-use Rattle.type_rules.specs.Declared.{nothing_declared}
+use Rattle.type_rules.specs.Declarations.{nothing_declared}
 use Rattle.type_rules.specs.TypeTerms.{type_term, no_variables}
-use Rattle.type_rules.specs.TypeFaults.{PlacedFault, TypeFault, fault_at, type_faults, any_variable}
+use Rattle.type_rules.specs.declared.fault.PlacedFault.{PlacedFault}
+use Rattle.type_rules.specs.declared.fault.TypeFault.{TypeFault}
+use Rattle.type_rules.specs.TypeFaults.{fault_at, type_faults, any_variable}
 
 -- a node in the first line
 abbrev pub at : {K : Type 0} → ℕ → K → Node K

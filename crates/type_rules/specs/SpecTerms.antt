@@ -20,22 +20,13 @@ use Rattle.erl_tree.specs.declared.form.Module.{Module}
 use Rattle.erl_tree.specs.Functions.{spec_clauses_arity}
 use Rattle.erl_runs.specs.Records.{fields_of}
 use Rattle.erl_runs.specs.Specs.{and_then, all_present, specs_in}
-use Rattle.type_rules.specs.Declared.{Declarations, declarations_of}
+use Rattle.type_rules.specs.declared.specs.TypeName.{TypeName}
+use Rattle.type_rules.specs.declared.specs.RecordSpec.{RecordSpec}
+use Rattle.type_rules.specs.declared.specs.Specs.{Specs}
+use Rattle.type_rules.specs.Declarations.{Declarations, declarations_of}
 use Rattle.type_rules.specs.TypeTerms.{type_term, record_tuple, tuple_term}
 use Rattle.type_rules.specs.TypeVariables.{parameters, numbered_from, and_variables_of, clause_variables}
 use Rattle.type_rules.specs.Bounds.{stands_for}
-
--- a record's name, the names of its fields, and the number of its definition
-pub record RecordSpec : Type 0 where
-  pub name : Name
-  pub fields : List Name
-  pub def : ℕ
-
--- all that a module's type declarations, records and specs are
-pub record ModuleSpecs : Type 0 where
-  pub defs : List Def
-  pub functions : List FunSpec
-  pub records : List RecordSpec
 
 -- ---- definitions
 
@@ -58,6 +49,10 @@ records_from n (r ∷ rs) = record { name = r.name; fields = map (λ (f : RecFie
 
 abbrev pub record_specs : Declarations → List RecordSpec
 record_specs declared = records_from (2 + length declared.types) declared.records
+
+-- the types, by their names and the numbers of their parameters
+abbrev pub type_names : Declarations → List TypeName
+type_names declared = map (λ (d : TypeDefKind). record { name = d.name; params = length d.params }) declared.types
 
 -- ---- the variables that stand in terms
 
@@ -137,8 +132,8 @@ abbrev pub function_specs : Declarations → List (Node SpecKind) → Option (Li
 function_specs declared specs = all_present (map (λ s. function_spec declared s.kind) specs)
 
 -- all of a module, where each type expression has a term
-abbrev pub module_specs : Module → Option ModuleSpecs
-module_specs m = and_then (definitions (declarations_of m)) (λ defs. option_map (λ functions. record { defs = defs; functions = functions; records = record_specs (declarations_of m) }) (function_specs (declarations_of m) (specs_in m.forms)))
+abbrev pub module_specs : Module → Option Specs
+module_specs m = and_then (definitions (declarations_of m)) (λ defs. option_map (λ functions. record { defs = defs; types = type_names (declarations_of m); functions = functions; records = record_specs (declarations_of m) }) (function_specs (declarations_of m) (specs_in m.forms)))
 
 -- ---- types that stand alone
 

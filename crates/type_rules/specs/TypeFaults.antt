@@ -26,49 +26,33 @@ use Rattle.erl_tree.specs.Functions.{FunctionId}
 use Rattle.erl_runs.specs.Names.{is_wildcard, same_id}
 use Rattle.erl_runs.specs.Records.{find_record, fields_of, has_field}
 use Rattle.erl_runs.specs.Specs.{specs_in, specified_id}
+use Rattle.type_rules.specs.declared.fault.Outside.{Outside}
+use Rattle.type_rules.specs.declared.fault.Outside.TheVariants.{RecordDefault, MapKey as MapKeyOutside, UnusableType, NonRegularType, CyclicBound}
+use Rattle.type_rules.specs.declared.fault.TypeFault.{TypeFault}
+use Rattle.type_rules.specs.declared.fault.TypeFault.TheVariants.{NoSuchType, Repeated, NotContractive, NegatedFun, OutOfProfile, ArityDiffers, BadRange}
+use Rattle.type_rules.specs.declared.fault.PlacedFault.{PlacedFault}
 use Rattle.type_rules.specs.TypeParts.{from_each, types_within}
 use Rattle.type_rules.specs.BuiltInTypes.{is_built_in_name, is_out_of_profile, is_built_in_type}
-use Rattle.type_rules.specs.Declared.{Declarations, declarations_of, types_in, record_forms_in, is_type_named, type_number}
+use Rattle.type_rules.specs.Declarations.{Declarations, declarations_of, types_in, record_forms_in, is_type_named, type_number}
 use Rattle.type_rules.specs.TypeTerms.{MapKey, this_key, integer_keys, atom_keys, no_key, map_key, range_term, is_prefixed_type}
 use Rattle.type_rules.specs.TypeVariables.{clause_types}
 use Rattle.type_rules.specs.Bounds.{bounded, IsCyclic}
-use Rattle.type_rules.specs.SpecTerms.{ModuleSpecs, module_specs}
+use Rattle.type_rules.specs.declared.specs.Specs.{Specs}
+use Rattle.type_rules.specs.SpecTerms.{module_specs}
 use Rattle.type_rules.specs.RegularUse.{IsNotRegular, field_types}
 use Rattle.type_rules.specs.RecordDefaults.{is_default}
 
 -- ---- faults
 
--- what is out of the profile
-pub data Outside : Type 0 where
-  record_default : Outside
-  map_key_outside : Outside
-  type_outside : Outside
-  non_regular_type : Outside
-  cyclic_bound : Outside
-
--- in words
+-- what is out of the profile, in words
 abbrev pub outside_words : Outside → Name
-outside_words record_default = codes "record default"
-outside_words map_key_outside = codes "map key"
-outside_words type_outside = codes "type"
-outside_words non_regular_type = codes "non-regular type"
-outside_words cyclic_bound = codes "cyclic bound"
-
--- what is wrong with a type, a record or a spec
-pub data TypeFault : Type 0 where
-  no_such_type : TypeFault
-  repeated : TypeFault
-  not_contractive : TypeFault
-  negated_fun : TypeFault
-  out_of_profile : Outside → TypeFault
-  arity_differs : TypeFault
-  bad_range : TypeFault
+outside_words RecordDefault = codes "record default"
+outside_words MapKeyOutside = codes "map key"
+outside_words UnusableType = codes "type"
+outside_words NonRegularType = codes "non-regular type"
+outside_words CyclicBound = codes "cyclic bound"
 
 -- a fault at its place
-pub record PlacedFault : Type 0 where
-  pub place : Place
-  pub fault : TypeFault
-
 abbrev pub fault_at : TypeFault → Place → PlacedFault
 fault_at fault place = record { place = place; fault = fault }
 
@@ -84,7 +68,7 @@ stands_among x names = list_any (same_name x) names
 
 -- a use of a type, by its name and the number of its arguments
 abbrev pub use_faults : Declarations → Name → ℕ → Place → List PlacedFault
-use_faults declared name count place = cond (is_out_of_profile name) (fault_at (out_of_profile type_outside) place ∷ []) (unless (is_built_in_type name count || is_some (type_number declared name count)) no_such_type place)
+use_faults declared name count place = cond (is_out_of_profile name) (fault_at (OutOfProfile UnusableType) place ∷ []) (unless (is_built_in_type name count || is_some (type_number declared name count)) NoSuchType place)
 
 -- ---- map types
 
@@ -106,7 +90,7 @@ part_key part = map_key (out-MapPart part.kind).required (out-MapPart part.kind)
 
 -- a key behind others
 abbrev pub key_faults : List MapKey → MapKey → Place → List PlacedFault
-key_faults before key place = unless (is_key key) (out_of_profile map_key_outside) place ++ unless (not (list_any (same_map_key key) before)) repeated place
+key_faults before key place = unless (is_key key) (OutOfProfile MapKeyOutside) place ++ unless (not (list_any (same_map_key key) before)) Repeated place
 
 -- the keys of a map type, behind others of it
 abbrev pub keys_faults : List MapKey → List (Node MapPart) → List PlacedFault
@@ -123,18 +107,18 @@ may_have (Some r) x = has_field (fields_of r) x
 -- the fields of a record type, behind others with these names
 abbrev pub fields_faults : Option RecDefKind → List Name → List (Node (Name × Node TypeKind)) → List PlacedFault
 fields_faults declared before [] = []
-fields_faults declared before (f ∷ fs) = unless (may_have declared f.kind.0) no_such_type f.place ++ (unless (not (stands_among f.kind.0 before)) repeated f.place ++ fields_faults declared (f.kind.0 ∷ before) fs)
+fields_faults declared before (f ∷ fs) = unless (may_have declared f.kind.0) NoSuchType f.place ++ (unless (not (stands_among f.kind.0 before)) Repeated f.place ++ fields_faults declared (f.kind.0 ∷ before) fs)
 
 -- ---- type expressions
 
 -- what is wrong with one level of a type expression, where these variables may stand
 abbrev pub fault_layer : Declarations → (Name → Bool) → Y.TypeKind-F TypeKind MapPart → Place → List PlacedFault
-fault_layer declared allowed (Y.Var x) place = unless (is_wildcard x || allowed x) no_such_type place
-fault_layer declared allowed (Y.Range low high) place = unless (is_some (range_term low high)) bad_range place
+fault_layer declared allowed (Y.Var x) place = unless (is_wildcard x || allowed x) NoSuchType place
+fault_layer declared allowed (Y.Range low high) place = unless (is_some (range_term low high)) BadRange place
 fault_layer declared allowed (Y.Use None name args) place = use_faults declared name (length args) place
-fault_layer declared allowed (Y.Use (Some prefix) name args) place = unless (is_prefixed_type prefix name (length args)) no_such_type place
+fault_layer declared allowed (Y.Use (Some prefix) name args) place = unless (is_prefixed_type prefix name (length args)) NoSuchType place
 fault_layer declared allowed (Y.Map parts) place = keys_faults [] parts
-fault_layer declared allowed (Y.Rec name tag fields) place = unless (is_some (find_record declared.records name)) no_such_type place ++ fields_faults (find_record declared.records name) [] fields
+fault_layer declared allowed (Y.Rec name tag fields) place = unless (is_some (find_record declared.records name)) NoSuchType place ++ fields_faults (find_record declared.records name) [] fields
 fault_layer declared allowed _ place = []
 
 abbrev pub own_faults : Declarations → (Name → Bool) → Node TypeKind → List PlacedFault
@@ -155,24 +139,24 @@ no_variable x = false
 
 -- a type declaration behind others: its name is a built-in type's, or is declared before with as many parameters; and its body, in which only its parameters may stand
 abbrev pub type_form_faults : Declarations → List TypeDefKind → Node TypeDefKind → List PlacedFault
-type_form_faults declared before d = unless (not (is_built_in_name d.kind.name || list_any (is_type_named d.kind.name (length d.kind.params)) before)) repeated d.place ++ type_faults declared (λ x. stands_among x d.kind.params) d.kind.body
+type_form_faults declared before d = unless (not (is_built_in_name d.kind.name || list_any (is_type_named d.kind.name (length d.kind.params)) before)) Repeated d.place ++ type_faults declared (λ x. stands_among x d.kind.params) d.kind.body
 
 -- ---- records
 
 -- a default, whole
 abbrev pub default_faults : Option (Node ExprKind) → List PlacedFault
 default_faults None = []
-default_faults (Some e) = unless (is_default e) (out_of_profile record_default) e.place
+default_faults (Some e) = unless (is_default e) (OutOfProfile RecordDefault) e.place
 
 -- the fields of a record, behind others with these names
 abbrev pub declared_fields_faults : Declarations → List Name → List (Node RecFieldKind) → List PlacedFault
 declared_fields_faults declared before [] = []
-declared_fields_faults declared before (f ∷ fs) = unless (not (stands_among f.kind.name before)) repeated f.place
+declared_fields_faults declared before (f ∷ fs) = unless (not (stands_among f.kind.name before)) Repeated f.place
     ++ (default_faults f.kind.default ++ (from_each (type_faults declared no_variable) (field_types f.kind.ty) ++ declared_fields_faults declared (f.kind.name ∷ before) fs))
 
 -- a record behind others with these names
 abbrev pub record_form_faults : Declarations → List Name → Node RecDefKind → List PlacedFault
-record_form_faults declared before r = unless (not (stands_among r.kind.name before)) repeated r.place ++ declared_fields_faults declared [] r.kind.fields
+record_form_faults declared before r = unless (not (stands_among r.kind.name before)) Repeated r.place ++ declared_fields_faults declared [] r.kind.fields
 
 -- ---- specs
 
@@ -183,11 +167,11 @@ has_repeated (x ∷ xs) = stands_among x xs || has_repeated xs
 
 -- a clause: a variable with two bounds, and its type expressions
 abbrev pub clause_faults : Declarations → Node SpecClauseKind → List PlacedFault
-clause_faults declared c = unless (not (has_repeated (bounded c.kind.bounds))) repeated c.place ++ from_each (type_faults declared any_variable) (clause_types c.kind)
+clause_faults declared c = unless (not (has_repeated (bounded c.kind.bounds))) Repeated c.place ++ from_each (type_faults declared any_variable) (clause_types c.kind)
 
 -- clauses with another number of parameters than this
 abbrev pub arities_differ : ℕ → List (Node SpecClauseKind) → List PlacedFault
-arities_differ count cs = from_each (λ (c : Node SpecClauseKind). unless (nat_eq (length c.kind.params) count) arity_differs c.place) cs
+arities_differ count cs = from_each (λ (c : Node SpecClauseKind). unless (nat_eq (length c.kind.params) count) ArityDiffers c.place) cs
 
 -- the clauses of a spec, each by the first one's number of parameters
 abbrev pub clauses_faults : Declarations → List (Node SpecClauseKind) → List PlacedFault
@@ -196,7 +180,7 @@ clauses_faults declared (c ∷ cs) = arities_differ (length c.kind.params) cs ++
 
 -- a spec behind those of these functions
 abbrev pub spec_form_faults : Declarations → List FunctionId → Node SpecKind → List PlacedFault
-spec_form_faults declared before s = unless (not (list_any (same_id (specified_id s)) before)) repeated s.place ++ clauses_faults declared s.kind.clauses
+spec_form_faults declared before s = unless (not (list_any (same_id (specified_id s)) before)) Repeated s.place ++ clauses_faults declared s.kind.clauses
 
 -- ---- modules
 
@@ -233,8 +217,8 @@ spec_clauses m = from_each (λ (s : Node SpecKind). s.kind.clauses) (specs_in m.
 -- a fault of a module, other than those that are told by its terms: at a single place, or by mentions that lead back
 pub data IsTextFault (m : Module) : PlacedFault → Type 0 where
   at_one_place : (f : PlacedFault) → Among f (listed_faults m) → IsTextFault m f
-  bound_leads_back : (c : Node SpecClauseKind) → Among c (spec_clauses m) → IsCyclic c.kind.bounds → IsTextFault m (fault_at (out_of_profile cyclic_bound) c.place)
-  not_regular : (t : Node TypeKind) → IsNotRegular (declarations_of m) t → IsTextFault m (fault_at (out_of_profile non_regular_type) t.place)
+  bound_leads_back : (c : Node SpecClauseKind) → Among c (spec_clauses m) → IsCyclic c.kind.bounds → IsTextFault m (fault_at (OutOfProfile CyclicBound) c.place)
+  not_regular : (t : Node TypeKind) → IsNotRegular (declarations_of m) t → IsTextFault m (fault_at (OutOfProfile NonRegularType) t.place)
 
 -- ---- the first
 
@@ -244,20 +228,20 @@ is_before p q = nat_lt p.line q.line || (nat_eq p.line q.line && nat_lt p.column
 
 -- the order of faults at one place
 abbrev pub outside_rank : Outside → ℕ
-outside_rank record_default = 4
-outside_rank map_key_outside = 5
-outside_rank type_outside = 6
-outside_rank non_regular_type = 7
-outside_rank cyclic_bound = 8
+outside_rank RecordDefault = 4
+outside_rank MapKeyOutside = 5
+outside_rank UnusableType = 6
+outside_rank NonRegularType = 7
+outside_rank CyclicBound = 8
 
 abbrev pub rank : TypeFault → ℕ
-rank no_such_type = 0
-rank repeated = 1
-rank not_contractive = 2
-rank negated_fun = 3
-rank (out_of_profile what) = outside_rank what
-rank arity_differs = 9
-rank bad_range = 10
+rank NoSuchType = 0
+rank Repeated = 1
+rank NotContractive = 2
+rank NegatedFun = 3
+rank (OutOfProfile what) = outside_rank what
+rank ArityDiffers = 9
+rank BadRange = 10
 
 -- whether a fault is named before another: it stands before it in the text, or at the same place with a lower rank
 abbrev pub is_earlier : PlacedFault → PlacedFault → Bool
@@ -270,11 +254,11 @@ abbrev pub name_places : Module → List Place
 name_places m = map (λ (d : Node TypeDefKind). get_or d.marks 2 d.place) (types_in m.forms) ++ map (λ (r : Node RecDefKind). get_or r.marks 3 r.place) (record_forms_in m.forms)
 
 -- the first definition that reaches itself, at its name
-pub record ReachesItself (m : Module) (s : ModuleSpecs) (f : PlacedFault) : Type 0 where
+pub record ReachesItself (m : Module) (s : Specs) (f : PlacedFault) : Type 0 where
   pub index : ℕ
   pub place : Place
   pub named : slice_get (name_places m) index ≡ Some place
-  pub fault : f ≡ fault_at not_contractive place
+  pub fault : f ≡ fault_at NotContractive place
   pub reaches : Reaches s.defs (2 + index) (2 + index)
   pub first : (n : ℕ) → n < 2 + index → Reaches s.defs n n → ⊥
 
@@ -283,33 +267,33 @@ abbrev pub IsWellSignedArrow : List Def → Arrow → Type 0
 IsWellSignedArrow defs a = Every (IsWellSigned defs) a.params × IsWellSigned defs a.result
 
 -- the arrows of a module's specs, in text order
-abbrev pub arrows_of : ModuleSpecs → List Arrow
+abbrev pub arrows_of : Specs → List Arrow
 arrows_of s = from_each (λ (f : FunSpec). f.clauses) s.functions
 
 -- the first clause of a spec that isn't well signed, at its opening parenthesis
-pub record IsNotSigned (m : Module) (s : ModuleSpecs) (f : PlacedFault) : Type 0 where
+pub record IsNotSigned (m : Module) (s : Specs) (f : PlacedFault) : Type 0 where
   pub number : ℕ
   pub clause : Node SpecClauseKind
   pub arrow : Arrow
   pub written : slice_get (spec_clauses m) number ≡ Some clause
   pub meant : slice_get (arrows_of s) number ≡ Some arrow
-  pub fault : f ≡ fault_at negated_fun clause.place
+  pub fault : f ≡ fault_at NegatedFun clause.place
   pub not_signed : IsWellSignedArrow s.defs arrow → ⊥
   pub first : (i : ℕ) (a : Arrow) → i < number → slice_get (arrows_of s) i ≡ Some a → IsWellSignedArrow s.defs a
 
 -- no fault stands in a module but, maybe, those that are told by its terms, and these are they
-pub record HasTerms (m : Module) (s : ModuleSpecs) : Type 0 where
+pub record HasTerms (m : Module) (s : Specs) : Type 0 where
   pub no_fault : (f : PlacedFault) → IsTextFault m f → ⊥
   pub terms : module_specs m ≡ Some s
 
 -- the first fault of a module. Terms are asked only where no other fault stands, and signs only where the definitions are contractive
 pub data IsFirstFault (m : Module) (f : PlacedFault) : Type 0 where
   of_the_text : IsTextFault m f → ((g : PlacedFault) → IsTextFault m g → is_earlier g f ≡ false) → IsFirstFault m f
-  of_definitions : (s : ModuleSpecs) → HasTerms m s → ReachesItself m s f → IsFirstFault m f
-  of_specs : (s : ModuleSpecs) → HasTerms m s → IsContractive s.defs → IsNotSigned m s f → IsFirstFault m f
+  of_definitions : (s : Specs) → HasTerms m s → ReachesItself m s f → IsFirstFault m f
+  of_specs : (s : Specs) → HasTerms m s → IsContractive s.defs → IsNotSigned m s f → IsFirstFault m f
 
 -- nothing is wrong with the types of a module, and this is what they are
-pub record HasSpecs (m : Module) (s : ModuleSpecs) : Type 0 where
+pub record HasSpecs (m : Module) (s : Specs) : Type 0 where
   pub terms : HasTerms m s
   pub contractive : IsContractive s.defs
   pub well_signed : Every (IsWellSignedArrow s.defs) (arrows_of s)

@@ -18,7 +18,7 @@ use Rattle.erl_runs.specs.Names.{is_wildcard}
 use Rattle.erl_runs.specs.Records.{find_record, fields_of}
 use Rattle.erl_runs.specs.Specs.{and_then, all_present, one_integer, range}
 use Rattle.type_rules.specs.BuiltInTypes.{list_of, nonempty_list_of, built_in_term, is_built_in_name}
-use Rattle.type_rules.specs.Declared.{Declarations, type_number, record_number}
+use Rattle.type_rules.specs.Declarations.{Declarations, type_number, record_number}
 
 -- ---- ranges
 

@@ -10,7 +10,7 @@ use Rattle.erl_tree.specs.declared.type_expr.TypeKind.TheOpen as Y
 use Rattle.erl_tree.specs.declared.form.SpecClauseKind.{SpecClauseKind}
 use Rattle.erl_runs.specs.Names.{is_wildcard}
 use Rattle.type_rules.specs.TypeParts.{from_each, types_within}
-use Rattle.type_rules.specs.Declared.{position}
+use Rattle.type_rules.specs.Declarations.{position}
 
 -- the variable that one level of a type expression is, if it is one. `_` is none, and neither is X in `X :: T`
 abbrev pub variable_layer : {A B : Type 0} → Y.TypeKind-F A B → List Name

@@ -5,9 +5,11 @@ ghost use Rattle.type_terms.specs.declared.term.Term.{Any, None as NoValue, Ints
 ghost use Rattle.type_terms.specs.declared.term.Key.TheVariants.{Int as IntKey, Atom as AtomKey};
 ghost use Rattle.erl_tree.specs.declared.type_expr.TypeKind.TheVariants as Y;
 ghost use Rattle.type_rules.specs.BuiltInTypes.{list_of, nonempty_list_of};
-ghost use Rattle.type_rules.specs.Declared.{nothing_declared};
+ghost use Rattle.type_rules.specs.Declarations.{nothing_declared};
 ghost use Rattle.type_rules.specs.SpecTerms.{term_behind};
-ghost use Rattle.type_rules.specs.TypeFaults.{repeated, bad_range, out_of_profile, map_key_outside, type_outside, no_such_type, IsFirstTypeFault};
+ghost use Rattle.type_rules.specs.declared.fault.TypeFault.TheVariants.{Repeated, BadRange, OutOfProfile, NoSuchType};
+ghost use Rattle.type_rules.specs.declared.fault.Outside.TheVariants.{MapKey, UnusableType};
+ghost use Rattle.type_rules.specs.TypeFaults.{IsFirstTypeFault};
 ghost use Rattle.type_rules.specs.SmallTypes.{alone, wrong, fault, at, used, atom_a, atom_b, range_of_characters, empty_range, some_map, one_key_twice, key_in_parentheses, key_out_of_profile, required_rest, zero_twice, rest_twice, key_unknown};
 
 /// The built-in types, by their terms.
@@ -56,24 +58,24 @@ pub fn types_by_their_form()
 pub fn map_types()
     ensures fields_and_rests { alone some_map ≡ Some (Map (record { key = IntKey (pos 1); required = false; term = AtomLit (codes "b") } ∷ record { key = AtomKey (codes "a"); required = true; term = AtomLit (codes "a") } ∷ []) (Some (AtomLit (codes "a"))) None) }
     ensures right { wrong some_map ≡ [] }
-    ensures in_parentheses { wrong key_in_parentheses ≡ fault (out_of_profile map_key_outside) 3 ∷ [] }
-    ensures required_rest { wrong required_rest ≡ fault (out_of_profile map_key_outside) 3 ∷ [] }
-    ensures one_key_twice { wrong one_key_twice ≡ fault repeated 9 ∷ [] }
-    ensures zero_twice { wrong zero_twice ≡ fault repeated 8 ∷ [] }
-    ensures rest_twice { wrong rest_twice ≡ fault repeated 16 ∷ [] }
-    ensures out_of_profile_as_a_key { IsFirstTypeFault nothing_declared (at 1 key_out_of_profile) (fault (out_of_profile map_key_outside) 3) }
-    ensures unknown_as_a_key { IsFirstTypeFault nothing_declared (at 1 key_unknown) (fault no_such_type 3) }
+    ensures in_parentheses { wrong key_in_parentheses ≡ fault (OutOfProfile MapKey) 3 ∷ [] }
+    ensures required_rest { wrong required_rest ≡ fault (OutOfProfile MapKey) 3 ∷ [] }
+    ensures one_key_twice { wrong one_key_twice ≡ fault Repeated 9 ∷ [] }
+    ensures zero_twice { wrong zero_twice ≡ fault Repeated 8 ∷ [] }
+    ensures rest_twice { wrong rest_twice ≡ fault Repeated 16 ∷ [] }
+    ensures out_of_profile_as_a_key { IsFirstTypeFault nothing_declared (at 1 key_out_of_profile) (fault (OutOfProfile MapKey) 3) }
+    ensures unknown_as_a_key { IsFirstTypeFault nothing_declared (at 1 key_unknown) (fault NoSuchType 3) }
 {}
 
 /// What is wrong with a type that stands alone, and its place.
 pub fn faults_of_types()
-    ensures empty_range { wrong empty_range ≡ fault bad_range 1 ∷ [] }
-    ensures unknown { wrong (Y.ListOf (at 2 (used (codes "foo") []))) ≡ fault no_such_type 2 ∷ [] }
-    ensures other_arity { wrong (used (codes "integer") (atom_a 9 ∷ [])) ≡ fault no_such_type 1 ∷ [] }
-    ensures out_of_profile { wrong (Y.Tuple (atom_a 2 ∷ at 4 (used (codes "pid") []) ∷ [])) ≡ fault (out_of_profile type_outside) 4 ∷ [] }
-    ensures out_of_profile_at_any_arity { wrong (used (codes "pid") (atom_a 5 ∷ [])) ≡ fault (out_of_profile type_outside) 1 ∷ [] }
-    ensures no_record { wrong (Y.Rec (codes "r") (codes "r") []) ≡ fault no_such_type 1 ∷ [] }
-    ensures other_prefix { wrong (Y.Use (Some (codes "ety")) (codes "union") []) ≡ fault no_such_type 1 ∷ [] }
+    ensures empty_range { wrong empty_range ≡ fault BadRange 1 ∷ [] }
+    ensures unknown { wrong (Y.ListOf (at 2 (used (codes "foo") []))) ≡ fault NoSuchType 2 ∷ [] }
+    ensures other_arity { wrong (used (codes "integer") (atom_a 9 ∷ [])) ≡ fault NoSuchType 1 ∷ [] }
+    ensures out_of_profile { wrong (Y.Tuple (atom_a 2 ∷ at 4 (used (codes "pid") []) ∷ [])) ≡ fault (OutOfProfile UnusableType) 4 ∷ [] }
+    ensures out_of_profile_at_any_arity { wrong (used (codes "pid") (atom_a 5 ∷ [])) ≡ fault (OutOfProfile UnusableType) 1 ∷ [] }
+    ensures no_record { wrong (Y.Rec (codes "r") (codes "r") []) ≡ fault NoSuchType 1 ∷ [] }
+    ensures other_prefix { wrong (Y.Use (Some (codes "ety")) (codes "union") []) ≡ fault NoSuchType 1 ∷ [] }
     ensures right { wrong (Y.Tuple (at 2 (Y.Var (codes "A")) ∷ at 4 (used (codes "atom") []) ∷ [])) ≡ [] }
 {}
 

@@ -4,9 +4,13 @@
 ghost use Rattle.std.specs.Prelude.{◌≡◌, ◌++◌, [], ◌∷◌, Some, None, codes};
 ghost use Rattle.type_terms.specs.Definitions.{given_definitions};
 ghost use Rattle.type_terms.specs.declared.term.Term.{Any, Ints, AtomLit, Tuple, And, Var, Name as NameTerm};
-ghost use Rattle.type_rules.specs.Declared.{declarations_of, type_number, record_number};
-ghost use Rattle.type_rules.specs.SpecTerms.{ModuleSpecs, definitions, record_specs};
-ghost use Rattle.type_rules.specs.TypeFaults.{PlacedFault, listed_faults, IsTextFault, IsFirstFault, HasSpecs, negated_fun, not_contractive, no_such_type, repeated, out_of_profile, arity_differs, record_default, cyclic_bound, non_regular_type};
+ghost use Rattle.type_rules.specs.Declarations.{declarations_of, type_number, record_number};
+ghost use Rattle.type_rules.specs.declared.specs.Specs.{Specs};
+ghost use Rattle.type_rules.specs.SpecTerms.{definitions, record_specs};
+ghost use Rattle.type_rules.specs.declared.fault.PlacedFault.{PlacedFault};
+ghost use Rattle.type_rules.specs.declared.fault.TypeFault.TheVariants.{NegatedFun, NotContractive, NoSuchType, Repeated, OutOfProfile, ArityDiffers};
+ghost use Rattle.type_rules.specs.declared.fault.Outside.TheVariants.{RecordDefault, CyclicBound, NonRegularType};
+ghost use Rattle.type_rules.specs.TypeFaults.{listed_faults, IsTextFault, IsFirstFault, HasSpecs};
 ghost use Rattle.type_rules.specs.SmallModules.{fault, function_specs_of, name_t, name_r, types_and_a_record, parameter_twice, unknown_type, no_parameter, variable_in_a_record, no_such_field, type_twice, reserved_name, record_twice, wrong_default, right_default, bounded_once, bounded_twice, bound_with_a_variable, bounds_in_a_row, unused_bound, two_clauses, clauses_and_specs_differ, two_bounds, bound_on_itself, not_regular, infinite_record, negated_variable, own_alternative, once_specs, regular};
 
 /// The definitions of a module are the two that are given, its types in text order, and then its records. A type is found by its name and the number of its parameters. A record type with fields in the places of its own is the tuple itself.
@@ -34,40 +38,40 @@ pub fn variables_of_specs()
 
 /// What is wrong with the types and records of a module, and its place.
 pub fn faults_of_declarations()
-    ensures unknown_type { listed_faults unknown_type ≡ fault no_such_type 2 14 ∷ [] }
-    ensures no_parameter { listed_faults no_parameter ≡ fault no_such_type 2 14 ∷ [] }
-    ensures variable_in_a_record { listed_faults variable_in_a_record ≡ fault no_such_type 2 18 ∷ [] }
-    ensures no_such_field { listed_faults no_such_field ≡ fault no_such_type 3 17 ∷ [] }
-    ensures type_twice { listed_faults type_twice ≡ fault repeated 3 1 ∷ [] }
-    ensures reserved_name { listed_faults reserved_name ≡ fault repeated 2 1 ∷ [] }
-    ensures record_twice { listed_faults record_twice ≡ fault repeated 2 16 ∷ fault repeated 3 1 ∷ [] }
-    ensures wrong_default { listed_faults wrong_default ≡ fault (out_of_profile record_default) 2 17 ∷ [] }
+    ensures unknown_type { listed_faults unknown_type ≡ fault NoSuchType 2 14 ∷ [] }
+    ensures no_parameter { listed_faults no_parameter ≡ fault NoSuchType 2 14 ∷ [] }
+    ensures variable_in_a_record { listed_faults variable_in_a_record ≡ fault NoSuchType 2 18 ∷ [] }
+    ensures no_such_field { listed_faults no_such_field ≡ fault NoSuchType 3 17 ∷ [] }
+    ensures type_twice { listed_faults type_twice ≡ fault Repeated 3 1 ∷ [] }
+    ensures reserved_name { listed_faults reserved_name ≡ fault Repeated 2 1 ∷ [] }
+    ensures record_twice { listed_faults record_twice ≡ fault Repeated 2 16 ∷ fault Repeated 3 1 ∷ [] }
+    ensures wrong_default { listed_faults wrong_default ≡ fault (OutOfProfile RecordDefault) 2 17 ∷ [] }
     ensures right_default { listed_faults right_default ≡ [] }
 {}
 
 /// What is wrong with the specs of a module, and its place.
 pub fn faults_of_specs()
-    ensures clauses_and_specs_differ { listed_faults clauses_and_specs_differ ≡ fault arity_differs 2 18 ∷ fault repeated 3 1 ∷ [] }
-    ensures two_bounds { listed_faults two_bounds ≡ fault repeated 2 8 ∷ [] }
+    ensures clauses_and_specs_differ { listed_faults clauses_and_specs_differ ≡ fault ArityDiffers 2 18 ∷ fault Repeated 3 1 ∷ [] }
+    ensures two_bounds { listed_faults two_bounds ≡ fault Repeated 2 8 ∷ [] }
     ensures bounded_once { listed_faults bounded_once ≡ [] }
-    ensures bound_on_itself { IsTextFault bound_on_itself (fault (out_of_profile cyclic_bound) 2 8) }
+    ensures bound_on_itself { IsTextFault bound_on_itself (fault (OutOfProfile CyclicBound) 2 8) }
 {}
 
 /// A type that leads back to itself passes its own parameters, and no record stands in its own declaration with fields in its places.
 pub fn regular_uses()
-    ensures not_regular { IsTextFault not_regular (fault (out_of_profile non_regular_type) 2 16) }
-    ensures infinite_record { IsTextFault infinite_record (fault (out_of_profile non_regular_type) 2 21) }
+    ensures not_regular { IsTextFault not_regular (fault (OutOfProfile NonRegularType) 2 16) }
+    ensures infinite_record { IsTextFault infinite_record (fault (OutOfProfile NonRegularType) 2 21) }
     ensures regular { (f : PlacedFault) → IsTextFault regular f → ⊥ }
 {}
 
 /// A clause in which a variable is negated is no spec, and nothing else is wrong with it. A type that reaches itself isn't contractive.
 pub fn faults_of_terms()
-    ensures negated_variable { IsFirstFault negated_variable (fault negated_fun 2 8) }
-    ensures own_alternative { IsFirstFault own_alternative (fault not_contractive 2 7) }
+    ensures negated_variable { IsFirstFault negated_variable (fault NegatedFun 2 8) }
+    ensures own_alternative { IsFirstFault own_alternative (fault NotContractive 2 7) }
 {}
 
 /// A module with nothing wrong, and what its specs are.
 pub fn right_modules()
     ensures bounded_once { HasSpecs bounded_once once_specs }
-    ensures once_alone { (s : ModuleSpecs) → HasSpecs bounded_once s → s ≡ once_specs }
+    ensures once_alone { (s : Specs) → HasSpecs bounded_once s → s ≡ once_specs }
 {}

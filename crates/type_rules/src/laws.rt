@@ -1,15 +1,14 @@
 //! Laws of the rules of types, each the contract of a function that does nothing.
 
-ghost use Rattle.std.specs.Prelude.{◌≡◌, List, [], Bool, Option, Some, length, is_some, true};
+ghost use Rattle.std.specs.Prelude.{◌≡◌, List, [], Bool, Option, length, is_some, true};
 ghost use Rattle.type_terms.specs.Keys.{Name};
 ghost use Rattle.type_terms.specs.declared.term.Term.{Term};
 ghost use Rattle.erl_tree.specs.declared.token.Place.{Place};
 ghost use Rattle.erl_tree.specs.declared.token.Node.{Node};
 ghost use Rattle.erl_tree.specs.declared.type_expr.TypeKind.{TypeKind};
 ghost use Rattle.erl_runs.specs.Records.{find_record};
-ghost use Rattle.erl_runs.specs.Specs.{type_term as flat_term};
-ghost use Rattle.type_rules.specs.Declared.{Declarations};
-ghost use Rattle.type_rules.specs.TypeTerms.{RecordTuple, type_kind_term, type_term, used_term};
+ghost use Rattle.type_rules.specs.Declarations.{Declarations};
+ghost use Rattle.type_rules.specs.TypeTerms.{RecordTuple, type_kind_term, used_term};
 ghost use Rattle.type_rules.specs.TypeFaults.{use_faults, type_faults};
 
 /// A type whose use isn't wrong has a term, whatever the terms of its arguments are.
@@ -24,9 +23,4 @@ pub fn a_right_type_has_a_term()
         ((x : Name) → allowed x ≡ true → is_some (variables x) ≡ true) →
         ((name : Name) → is_some (find_record declared.records name) ≡ true → is_some (tuples name) ≡ true) →
         (t : Node TypeKind) → type_faults declared allowed t ≡ [] → is_some (type_kind_term declared tuples variables t.kind) ≡ true }
-{}
-
-/// A type of a flat module has the term that it has there, whatever is declared.
-pub fn a_flat_type_has_its_term()
-    ensures { (declared : Declarations) (variables : Name → Option Term) (t : Node TypeKind) (u : Term) → flat_term t ≡ Some u → type_term declared variables t ≡ Some u }
 {}

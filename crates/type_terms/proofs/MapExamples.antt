@@ -1,6 +1,6 @@
 -- A definition whose body is a map term.
-use Rattle.std.proofs.Common.{◌≡◌, refl, sym, ◌∙◌, ap, subst, ℕ, zero, suc, List, [], ◌∷◌, true, arith}
-use Rattle.std.specs.Prelude.{Option, Some, None as Nothing, slice_get, pos}
+use Rattle.std.proofs.Common.{◌≡◌, refl, ap, subst, ℕ, List, [], ◌∷◌, true, arith}
+use Rattle.std.specs.Prelude.{Some, None as Nothing, pos}
 use Rattle.std.specs.List.{Contains}
 use Rattle.type_terms.specs.declared.term.Def.{Def}
 use Rattle.type_terms.specs.declared.term.Field.{Field}

@@ -1,5 +1,5 @@
 -- A definition that doesn't reach itself though another does through it, a fun type among the parameters of another one, in a map's rest, and a negation in an argument that isn't used.
-use Rattle.std.proofs.Common.{◌≡◌, refl, sym, ap, subst, ℕ, zero, suc, List, [], ◌∷◌, Bool, true, false, not, ⊎_elim, arith}
+use Rattle.std.proofs.Common.{◌≡◌, refl, sym, ap, subst, ℕ, zero, suc, List, [], ◌∷◌, Bool, true, false, arith}
 use Rattle.std.proofs.lemmas.Bool.{true≢false}
 use Rattle.std.specs.Prelude.{Some, None as Nothing, slice_get}
 use Rattle.std.specs.List.{Contains}

@@ -7,6 +7,7 @@ pub mod BareNumbers
 pub mod Openness
 pub mod Graphs
 pub mod Paths
+pub mod Regular
 pub mod Undefined
 pub mod Refusals
 pub mod Signs

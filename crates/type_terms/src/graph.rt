@@ -53,8 +53,12 @@ struct Visit {
     next: usize,
 }
 
-/// The nodes, each after those that follow it, except on a cycle.
-pub(crate) fn post_order(alloc: Global, graph: &[List<u32>]) -> Result<List<u32>, NoMemory> {
+/// The nodes, each after those that follow it, except on a cycle. The contract doesn't say so: who needs it tests it.
+///
+/// # Errors
+///
+/// `NoMemory` where memory runs out.
+pub fn post_order(alloc: Global, graph: &[List<u32>]) -> Result<List<u32>, NoMemory> {
     let mut seen = List::new(alloc);
     let mut order = List::new(alloc);
     let mut root: u32 = 0;
@@ -115,8 +119,12 @@ fn enter(node: u32, seen: &mut List<bool>, way: &mut List<Visit>) -> Result<(), 
 }
 
 /// A rank for each node, which falls along each edge, except that it stays the same along an edge
-/// of a cycle.
-pub(crate) fn component_ranks(alloc: Global, graph: &[List<u32>]) -> Result<List<usize>, NoMemory> {
+/// of a cycle. The contract doesn't say so: who needs it tests it.
+///
+/// # Errors
+///
+/// `NoMemory` where memory runs out.
+pub fn component_ranks(alloc: Global, graph: &[List<u32>]) -> Result<List<usize>, NoMemory> {
     let turned = reversed(alloc, graph)?;
     let mut order = post_order(alloc, graph)?;
     let mut ranks = List::new(alloc);

@@ -21,7 +21,9 @@ mod term;
 mod term_copy;
 
 pub use defs::{DefFault, Defs, well_signed};
+pub use graph::{component_ranks, post_order};
 pub use list::{Bytes, List, NoMemory, Text};
+pub use paths::{least_on_cycle, never_rises, reached_from};
 pub use plain::Plain;
 pub use replacement::replace;
 pub use spec::{Arrow, FunSpec, Kind};

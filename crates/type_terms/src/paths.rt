@@ -15,7 +15,7 @@ use std::alloc::Global;
 /// # Errors
 ///
 /// `NoMemory` where memory runs out.
-pub(crate) fn least_on_cycle(alloc: Global, graph: &[List<u32>]) -> Result<Option<u32>, NoMemory>
+pub fn least_on_cycle(alloc: Global, graph: &[List<u32>]) -> Result<Option<u32>, NoMemory>
     requires { length graph.now < 2 ^ 32 }
     ensures { IfOk result (λ answer. MatchOption answer ((n : ℕ) → IsPath graph.now n n → ⊥) (λ n. IsPath graph.now n n × ((m : ℕ) → m < n → IsPath graph.now m m → ⊥))) }
 {
@@ -47,7 +47,11 @@ fn reaches_itself(alloc: Global, graph: &[List<u32>], node: usize) -> Result<boo
 }
 
 /// The nodes to which a path leads from a node.
-fn reached_from(alloc: Global, graph: &[List<u32>], node: usize) -> Result<List<bool>, NoMemory>
+///
+/// # Errors
+///
+/// `NoMemory` where memory runs out.
+pub fn reached_from(alloc: Global, graph: &[List<u32>], node: usize) -> Result<List<bool>, NoMemory>
     ensures { IfOk result (λ seen. (m : ℕ) → (get_or seen m false ≡ true) ↔ IsPath graph.now node m) }
 {
     let mut seen = List::new(alloc);
@@ -140,7 +144,7 @@ fn first_not_falling(graph: &[List<u32>], ranks: &[usize]) -> usize
 }
 
 /// Whether the rank rises along no edge.
-fn never_rises(graph: &[List<u32>], ranks: &[usize]) -> bool
+pub fn never_rises(graph: &[List<u32>], ranks: &[usize]) -> bool
     ensures { IsTrue result → NeverRises graph.now ranks.now }
 {
     'nodes: for node in 0..graph.len() {

@@ -1,4 +1,4 @@
-use Rattle.std.proofs.Common.{rules, arith, refl, sym, subst, ap, ◌∙◌, ℕ}
+use Rattle.std.proofs.Common.{arith, refl, subst, ap, ◌∙◌}
 use Rattle.std.specs.Prelude.{slice_get}
 use Rattle.type_terms.specs.declared.sign_search.Signs.{Signs}
 use Rattle.type_terms.specs.declared.sign_search.Sought.TheVariants.{Variable}

@@ -1,11 +1,10 @@
-use Rattle.std.proofs.Common.{rules, ◌≡◌, ◌∙◌, sym, ap, subst, refl, length, List, ℕ, ◌<◌, get_or, true, false}
-use Rattle.std.specs.Prelude.{Some, slice_get, not}
+use Rattle.std.proofs.Common.{rules, ◌≡◌, ◌∙◌, sym, subst, refl, length, List, ℕ, ◌<◌, get_or}
+use Rattle.std.specs.Prelude.{Some, slice_get}
 use Rattle.std.proofs.lemmas.Option.{slice_get_read}
 use Rattle.type_terms.specs.declared.term.Def.{Def}
-use Rattle.type_terms.specs.declared.sign_search.Signs.{Signs}
 use Rattle.type_terms.specs.declared.sign_search.DefSigns.{DefSigns}
 use Rattle.type_terms.specs.declared.sign_search.Sought.TheVariants.{Funs, Variable}
-use Rattle.type_terms.specs.SignTables.{Covers, IsRow, IsTableOf, no_signs, signs_in}
+use Rattle.type_terms.specs.SignTables.{IsRow, IsTableOf, no_signs, signs_in}
 use Rattle.type_terms.proofs.SignTableSteps.{set-table, covering-row, some-inj, not-false}
 use Rattle.type_terms.proofs.sign_table.raise_at.Goals as goal
 
