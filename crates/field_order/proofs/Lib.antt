@@ -1,0 +1,3 @@
+pub mod StableOrders
+pub mod KeysCompared
+pub mod PlacedFields

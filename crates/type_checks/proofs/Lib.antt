@@ -1,0 +1,14 @@
+pub mod EarliestLaws
+pub mod Rows
+pub mod NamesCompared
+pub mod RecordLookups
+pub mod DeclaredRecords
+pub mod FieldLaws
+pub mod AllowedLaws
+pub mod LevelLaws
+pub mod TypeLaws
+pub mod DefaultLaws
+pub mod SpecLaws
+pub mod Insertions
+pub mod FormLaws
+pub mod MapKeyLaws

@@ -1,0 +1,9 @@
+pub mod Tables
+pub mod Allowed
+pub mod Noted
+pub mod Fields
+pub mod Levels
+pub mod Defaults
+pub mod Specs
+pub mod Behind
+pub mod SeenKeys

@@ -1,0 +1,18 @@
+-- Faults that are noted by what a module declares.
+use Rattle.std.specs.Prelude.{◌≡◌, List, Option}
+use Rattle.type_terms.specs.Keys.{Name}
+use Rattle.erl_runs.specs.Records.{find_record}
+use Rattle.type_rules.specs.declared.fault.PlacedFault.{PlacedFault}
+use Rattle.type_rules.specs.Declarations.{Declarations}
+use Rattle.type_rules.specs.Earliest.{earliest}
+use Rattle.type_tables.specs.Numbers.{KnowsNumbers}
+use Rattle.type_checks.specs.declared.scope.Scope.{Scope}
+
+-- each look-up gives what the declarations give
+pub record KnowsDeclared (scope : Scope) (d : Declarations) : Type 0 where
+  pub numbers : KnowsNumbers scope.numbers.now d
+  pub records : (name : Name) → find_record scope.records name ≡ find_record d.records name
+
+-- the first fault, after these are noted
+abbrev pub IsNoted : Scope → Option PlacedFault → Option PlacedFault → (Declarations → List PlacedFault) → Type 0
+IsNoted scope old new faults = (d : Declarations) → KnowsDeclared scope d → new ≡ earliest old (faults d)

@@ -1,0 +1,45 @@
+//! Whole type expressions.
+
+ghost use Rattle.std.specs.Prelude.{◌≡◌, OnOk};
+ghost use Rattle.type_rules.specs.TypeParts.{from_each};
+ghost use Rattle.type_rules.specs.TypeFaults.{own_faults, type_faults};
+ghost use Rattle.type_tables.specs.Seen.{seen};
+ghost use Rattle.type_checks.specs.Allowed.{allows};
+ghost use Rattle.type_checks.specs.Noted.{IsNoted};
+
+use crate::allowed::Allowed;
+use crate::first::First;
+use crate::levels::note_own;
+use crate::scope::Scope;
+use erl_tree::TypeExpr;
+use type_tables::types_within;
+use type_terms::NoMemory;
+
+/// What is wrong with one level each of some type expressions.
+fn note_each(
+    scope: &Scope<'_>,
+    allowed: &Allowed<'_>,
+    types: &[&TypeExpr],
+    first: &mut First,
+) -> Result<(), NoMemory>
+    ensures { OnOk result (IsNoted scope.now first.old first.new (λ d. from_each (own_faults d (allows allowed.now)) (seen types.now))) }
+{
+    for one in types {
+        note_own(scope, allowed, *one, first)?;
+    }
+    Ok(())
+}
+
+/// What is wrong with a type expression, in which some variables may stand.
+pub fn check_type(
+    scope: &Scope<'_>,
+    allowed: &Allowed<'_>,
+    t: &TypeExpr,
+    first: &mut First,
+) -> Result<(), NoMemory>
+    ensures { OnOk result (IsNoted scope.now first.old first.new (λ d. type_faults d (allows allowed.now) t.now)) }
+{
+    let mut within = Vec::new(scope.alloc);
+    types_within(t, &mut within)?;
+    note_each(scope, allowed, within.as_slice(), first)
+}

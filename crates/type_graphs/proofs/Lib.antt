@@ -1,0 +1,11 @@
+pub mod FaultOrder
+pub mod FirstLaws
+pub mod FormLaws
+pub mod Gathering
+pub mod Layers
+pub mod GraphLaws
+pub mod Names
+pub mod ParameterLaws
+pub mod PositionLaws
+pub mod UseLaws
+pub mod VariableTerms

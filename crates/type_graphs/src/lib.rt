@@ -1,0 +1,17 @@
+//! Mentions that lead back: bounds of specs that lead back to one of their variables, and uses of types and records inside their
+//! own declarations that aren't regular. The first of these faults.
+#![tactic(auto)]
+
+mod bounds;
+mod edges;
+mod faults;
+mod first;
+mod parameters;
+mod parts;
+mod routes;
+mod uses;
+
+pub use faults::first_graph_fault;
+
+#[cfg(test)]
+mod tests;

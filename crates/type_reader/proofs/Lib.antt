@@ -1,0 +1,5 @@
+pub mod NamedTerms
+pub mod Collected
+pub mod MapEntries
+pub mod GivenFields
+pub mod FormTerms

@@ -1,0 +1,4 @@
+pub mod Tables
+pub mod Collecting
+pub mod Entries
+pub mod Parts

@@ -1,0 +1,9 @@
+pub mod FormLists
+pub mod Inversion
+pub mod Arrows
+pub mod Parameters
+pub mod FirstText
+pub mod Present
+pub mod Declared
+pub mod Contractive
+pub mod Terms
