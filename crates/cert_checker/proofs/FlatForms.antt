@@ -12,8 +12,9 @@ use Rattle.erl_tree.specs.declared.type_expr.TypeKind.TheVariants as Y
 use Rattle.erl_tree.specs.declared.type_expr.TypeKind.TheOpen as L
 use Rattle.erl_tree.specs.declared.token.Place.{Place}
 use Rattle.flat_modules.specs.Grammar.{IsType, one_type, atom_type}
-use Rattle.erl_runs.specs.Specs.{and_then, one_integer, built_in_type, type_kind_term, type_term}
-use Rattle.erl_runs.proofs.TypeTermLaws.{type_kind_term-Atom, type_kind_term-Int, type_kind_term-NegInt, type_kind_term-Paren, type_kind_term-Or, type_kind_term-Range, type_kind_term-Use}
+use Rattle.erl_runs.specs.Specs.{and_then, one_integer}
+use Rattle.flat_modules.specs.FlatSpecs.{built_in_type, type_kind_term, type_term}
+use Rattle.flat_modules.proofs.FlatTermLaws.{type_kind_term-Atom, type_kind_term-Int, type_kind_term-NegInt, type_kind_term-Paren, type_kind_term-Or, type_kind_term-Range, type_kind_term-Use}
 use Rattle.flat_modules.proofs.GrammarLaws.{flat_type_layer, type-layer}
 use Rattle.cert_checker.specs.FlatTypes.{is_limited, is_limited_end, limited_type_layer, is_limited_type, IsFlatType, range_term}
 use Rattle.cert_checker.proofs.Lists.{then-some, some-inj}

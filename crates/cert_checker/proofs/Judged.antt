@@ -26,7 +26,8 @@ use Rattle.erl_tree.specs.declared.form.Function.{Function}
 use Rattle.erl_tree.specs.declared.form.Module.{Module}
 use Rattle.erl_tree.specs.Lists.{Every, Among}
 use Rattle.erl_tree.specs.Functions.{FunctionId, of_function, function_id, functions_of, function_ids, clauses_arity}
-use Rattle.erl_runs.specs.Specs.{and_then, specs_in, specs_of}
+use Rattle.erl_runs.specs.Specs.{and_then, specs_in}
+use Rattle.flat_modules.specs.FlatSpecs.{specs_of}
 use Rattle.flat_modules.specs.Grammar.{IsExpr, one_product, sum, IsProduct, one_operand, product, IsOperand, integer, atom, variable, parens, call as call_operand, AreArguments, no_arguments, last_argument, more_arguments, IsAdditive, IsPattern, is_pattern_layer, IsBody, IsClause, IsFunction, IsItem, is_item_layer, is_clause_layer}
 use Rattle.erl_runs.specs.Names.{is_wildcard}
 use Rattle.flat_modules.specs.FlatNames.{bound_layer, bound_by, used_in, used_item_layer, used_by, called_in, called_item_layer, IsScopedClause, CallsOnly}
@@ -213,7 +214,7 @@ body-judged fits number m flat f a arrow k =
     let used : Every (λ x. Among x (bound_by patterns)) (used_item_layer (out-ItemKind i.0.kind) ++ []) = subst (λ z. Every (λ x. Among x (bound_by patterns)) (used_by z)) i.1 scoped.0 in
     let calls : Every (CallsOnly (function_ids m)) (c.0 ∷ []) = subst (λ z. Every (CallsOnly (function_ids m)) z) c.1 (every-at _ f (functions_of m) flat.own_calls a) in
     let called : Every (λ (i : Node ItemKind). Every (λ id. Among id (function_ids m)) (called_item_layer (out-ItemKind i.kind))) (i.0 ∷ []) = subst (λ z. Every (λ (i : Node ItemKind). Every (λ id. Among id (function_ids m)) (called_item_layer (out-ItemKind i.kind))) z) i.1 calls.0 in
-    let one : Every HasOneArrow (specs_of m) = one-arrow-each (specs_in m.forms) (specs_of m) (forms-specs m.forms (well_formed-forms m (flat-formed m flat))) flat.readable.specs_read in
+    let one : Every HasOneArrow (specs_of m) = one-arrow-each (specs_in m.forms) (specs_of m) (forms-specs m.forms (well_formed-forms m (flat-formed m flat))) flat.flat_specs.specs_read in
     let len : length patterns ≡ length arrow.params = sym (arrow-arity (specs_of m) f.name (clauses_arity f.clauses) arrow one k ∙ ap clauses_arity c.1) in
     let j : IsJudged (judge fits number (specs_of m) e.0 (variable_type patterns arrow.params)) =
     expr-judged fits number (specs_of m) (variable_type patterns arrow.params) (bound_by patterns) (function_ids m) (λ x b. variable-typed patterns arrow.params x p.1 len b) (λ name arity b. defined-arrow m flat name arity b) e.0 e.2

@@ -20,10 +20,11 @@ use Rattle.erl_tree.specs.declared.form.SpecClauseKind.{SpecClauseKind}
 use Rattle.erl_tree.specs.declared.form.Module.{Module}
 use Rattle.erl_tree.specs.Lists.{Every}
 use Rattle.flat_modules.specs.Grammar.{IsType, one_type, union, IsSimpleType, atom_type, integer_type, negative_type, range_type, use_type, paren_type, IsSpec, IsSpecClause, is_spec_clause_layer, IsWellFormed}
-use Rattle.erl_runs.specs.Specs.{and_then, end_of, range, built_in_type, type_term, all_present, clause_arrow, function_spec, specs_in, read_specs, specs_of}
+use Rattle.erl_runs.specs.Specs.{and_then, range, all_present, specs_in}
+use Rattle.flat_modules.specs.FlatSpecs.{end_of, built_in_type, type_term, clause_arrow, function_spec, read_specs, specs_of}
 use Rattle.erl_runs.specs.Value.{Value, integer, atom, nil, cons, tuple, map_of, named_fun, closure}
 use Rattle.erl_runs.specs.Membership.{Program, InTerm, values_in, arrows_if, arrows_of}
-use Rattle.erl_runs.proofs.TypeTermLaws.{type_kind_term-Atom, type_kind_term-Int, type_kind_term-NegInt, type_kind_term-Paren, type_kind_term-Or, type_kind_term-Range, type_kind_term-Use}
+use Rattle.flat_modules.proofs.FlatTermLaws.{type_kind_term-Atom, type_kind_term-Int, type_kind_term-NegInt, type_kind_term-Paren, type_kind_term-Or, type_kind_term-Range, type_kind_term-Use}
 use Rattle.erl_runs.proofs.Equations.{in-Or}
 use Rattle.erl_runs.proofs.MembershipStability.{in-stable}
 use Rattle.cert_checker.proofs.Lists.{then-some, some-inj, none-some}

@@ -14,7 +14,7 @@ use Rattle.erl_tree.specs.declared.form.TreeForm.TheVariants as F
 use Rattle.erl_tree.specs.declared.form.Module.{Module}
 use Rattle.erl_tree.specs.Lists.{Every, Among}
 use Rattle.erl_tree.specs.Functions.{functions_of, clauses_arity, of_function}
-use Rattle.erl_runs.specs.Specs.{specs_of}
+use Rattle.flat_modules.specs.FlatSpecs.{specs_of}
 use Rattle.erl_runs.specs.Membership.{arrows_of}
 use Rattle.flat_modules.specs.FlatModules.{IsFlatModule}
 use Rattle.function_table.specs.Table.{ids}

@@ -22,7 +22,8 @@ use Rattle.erl_tree.specs.declared.form.TreeForm.TheVariants as F
 use Rattle.erl_tree.specs.declared.form.Module.{Module}
 use Rattle.erl_tree.specs.Lists.{Every, Among}
 use Rattle.erl_tree.specs.Functions.{functions_in, functions_of}
-use Rattle.erl_runs.specs.Specs.{and_then, all_present, type_term, clause_arrow, function_spec, specs_in, specs_of}
+use Rattle.erl_runs.specs.Specs.{and_then, all_present, specs_in}
+use Rattle.flat_modules.specs.FlatSpecs.{type_term, clause_arrow, function_spec, specs_of}
 use Rattle.flat_modules.specs.Spelling.{tokens_of, module_layer, forms_tokens, form_tokens, spec_layer, spec_clause_layer, spec_clause_tokens, function_tokens, clauses_tokens, clause_layer, clause_tokens, body_tokens, item_layer, item_tokens, pattern_tokens, type_tokens, expr_tokens}
 use Rattle.flat_modules.specs.Grammar.{IsType, IsExpr, IsForm, IsFunction, IsClause, IsItem, IsBody, IsWellFormed, AreParamMarks, is_module_layer, is_spec_layer, is_spec_clause_layer, is_function_layer, is_clause_layer, is_item_layer}
 use Rattle.flat_modules.specs.FlatModules.{IsFlatModule}
@@ -100,7 +101,7 @@ forms-flat (_ ∷ forms) fs w l e = absurd w.0
 
 -- the types of a flat module's specs
 pub module-flat : (m : Module) → IsFlatModule m → Every IsFlatForm m.forms
-module-flat m flat = forms-flat m.forms (specs_of m) (well_formed-forms m (flat-formed m flat)) (module-limits m (flat-formed m flat) (flat-limits m flat)) flat.readable.specs_read
+module-flat m flat = forms-flat m.forms (specs_of m) (well_formed-forms m (flat-formed m flat)) (module-limits m (flat-formed m flat) (flat-limits m flat)) flat.flat_specs.specs_read
 
 -- ---- bodies
 

@@ -20,7 +20,8 @@ use Rattle.erl_tree.specs.declared.form.TreeForm.TheVariants as F
 use Rattle.erl_tree.specs.declared.form.Module.{Module}
 use Rattle.erl_tree.specs.Lists.{Every, Among, AreDistinct}
 use Rattle.erl_tree.specs.Functions.{functions_in, function_id, clauses_arity, has_id, find_function}
-use Rattle.erl_runs.specs.Specs.{and_then, all_present, clause_arrow, arrows_arity, function_spec, specs_in}
+use Rattle.erl_runs.specs.Specs.{and_then, all_present, specs_in}
+use Rattle.flat_modules.specs.FlatSpecs.{clause_arrow, arrows_arity, function_spec}
 use Rattle.flat_modules.specs.Grammar.{IsForm, IsSpec, IsSpecClause, IsFunction, IsClause, is_spec_layer, is_function_layer, is_module_layer, IsWellFormed}
 use Rattle.erl_runs.specs.Membership.{arrows_if, arrows_of}
 use Rattle.cert_checker.proofs.Lists.{among-map, then-some, some-inj}

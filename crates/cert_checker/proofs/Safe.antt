@@ -29,13 +29,18 @@ use Rattle.erl_tree.specs.declared.form.Function.{Function}
 use Rattle.erl_tree.specs.declared.form.Module.{Module}
 use Rattle.erl_tree.specs.Lists.{Every, Among}
 use Rattle.erl_tree.specs.Functions.{of_function, function_id, functions_of, function_ids, clauses_arity, find_function, FunctionId}
-use Rattle.erl_runs.specs.Specs.{and_then, one_integer, specs_of, specs_in, spec_id}
+use Rattle.erl_runs.specs.Specs.{and_then, one_integer, specs_in, spec_id}
+use Rattle.type_rules.specs.declared.specs.Specs.{Specs}
+use Rattle.type_rules.specs.SpecTerms.{module_specs}
+use Rattle.flat_modules.specs.FlatSpecs.{specs_of}
 use Rattle.flat_modules.specs.Grammar.{IsExpr, one_product, sum, IsProduct, one_operand, product, IsOperand, AreArguments, no_arguments, last_argument, more_arguments, IsAdditive, IsPattern, is_pattern_layer, IsBody}
 use Rattle.flat_modules.specs.Grammar as G
 use Rattle.erl_runs.specs.Names.{is_wildcard, is_built_in}
 use Rattle.flat_modules.specs.FlatNames.{bound_layer, bound_by}
 use Rattle.flat_modules.specs.FlatModules.{HasDistinctHead, IsFlatModule}
 use Rattle.flat_modules.proofs.FlatLaws.{flat-formed, flat-names}
+use Rattle.flat_modules.proofs.FlatVariables.{some-is}
+use Rattle.flat_modules.proofs.HasSpecs.{flat-whole}
 use Rattle.erl_runs.specs.Value.{Value, Environment, no_bindings, named_fun, Run, Outcome, came, raised, wrong, going, integer, atom, Call, nil, cons, tuple, map_of, closure}
 use Rattle.erl_runs.specs.Matching.{variable_value, match_patterns}
 use Rattle.erl_runs.specs.Membership.{Program, InTerm, values_in, arrows_if, arrows_of, ends_well, calls_within}
@@ -385,7 +390,7 @@ module _ (m : Module) (flat : IsFlatModule m) (hold : Every Holds (owed_of alway
   IsCalled apply = (name : Name) (arrow : Arrow) (vs : List Value) (steps : ℕ) → arrows_of (specs_of m) name (length vs) ≡ arrow ∷ [] → AreHeld whole vs arrow.params → GoodRun whole Value (λ v. Held whole v arrow.result) (apply (named_fun name (length vs)) vs steps)
 
   keys-of : (name : Name) (arity : ℕ) (arrow : Arrow) → Contains (arrows_of (specs_of m) name arity) arrow → IsArrowOfKeys arrow
-  keys-of = module-keys m (flat-formed m flat) flat.readable.specs_read
+  keys-of = module-keys m (flat-formed m flat) flat.flat_specs.specs_read
 
   free : (name : Name) (arrow : Arrow) (vs : List Value) → arrows_of (specs_of m) name (length vs) ≡ arrow ∷ [] → built_in (arity_of code) name vs ≡ None
   free name arrow vs e =
@@ -413,7 +418,7 @@ module _ (m : Module) (flat : IsFlatModule m) (hold : Every Holds (owed_of alway
       let patterns : List (Node PatternKind) = (out-ClauseKind b.clause.kind).patterns in
       let p : ((out-ClauseKind b.clause.kind).guard ≡ None) × Every IsPattern patterns × IsBody (out-ClauseKind b.clause.kind).body = clause-parts (out-ClauseKind b.clause.kind) b.clause.place b.clause.marks b.clause_formed in
       let distinct : Every HasDistinctHead (b.clause ∷ []) = subst (λ z. Every HasDistinctHead z) b.one_clause (every-at _ f (functions_of m) flat.distinct_heads a) in
-      let one : Every HasOneArrow (specs_of m) = one-arrow-each (specs_in m.forms) (specs_of m) (forms-specs m.forms (well_formed-forms m (flat-formed m flat))) flat.readable.specs_read in
+      let one : Every HasOneArrow (specs_of m) = one-arrow-each (specs_in m.forms) (specs_of m) (forms-specs m.forms (well_formed-forms m (flat-formed m flat))) flat.flat_specs.specs_read in
       let len : length patterns ≡ length arrow.params = sym (arrow-arity (specs_of m) f.name (clauses_arity f.clauses) arrow one c ∙ ap clauses_arity b.one_clause) in
       let t : Taken (Held whole) (bound_by patterns) (variable_type patterns arrow.params) no_bindings (match_patterns (records_of m) patterns vs no_bindings) = take-patterns (Held whole) (records_of m) patterns arrow.params vs no_bindings p.1 distinct.0 len (all-held vs arrow.params h) (λ x z. refl) in
       let layer : out-ClauseKind b.clause.kind ≡ record { patterns = patterns; guard = None; body = b.item ∷ [] } = λ i. record { patterns = patterns; guard = p.0 i; body = b.one_item i } in
@@ -488,7 +493,7 @@ module _ (m : Module) (flat : IsFlatModule m) (hold : Every Holds (owed_of alway
   safe-run f arrow i args steps a c h =
       let k : IsArrowOfKeys arrow = keys-of f.name (clauses_arity f.clauses) arrow c in
       let e : arrows_of (specs_of m) f.name (clauses_arity f.clauses) ≡ arrow ∷ [] = only-arrow f arrow a c in
-      let one : Every HasOneArrow (specs_of m) = one-arrow-each (specs_in m.forms) (specs_of m) (forms-specs m.forms (well_formed-forms m (flat-formed m flat))) flat.readable.specs_read in
+      let one : Every HasOneArrow (specs_of m) = one-arrow-each (specs_in m.forms) (specs_of m) (forms-specs m.forms (well_formed-forms m (flat-formed m flat))) flat.flat_specs.specs_read in
       let n : length args ≡ clauses_arity f.clauses = in-length (InTerm whole 0) args arrow.params i h ∙ arrow-arity (specs_of m) f.name (clauses_arity f.clauses) arrow one c in
       subst (λ z. IsRightRun whole (apply code (named_fun f.name z) args steps) arrow.result i) n
       (run-right (apply code (named_fun f.name (length args)) args steps) arrow.result i k.1 (calls-good steps f.name arrow args steps (ap (arrows_of (specs_of m) f.name) n ∙ e) (values-moved arrow.params k.0 whole whole 0 0 i no_variables args h)))
@@ -500,3 +505,7 @@ holds-safe m flat hold outside f arrow i args steps a c w r = safe-run m flat ho
 -- a module that meets its constraints is safe
 pub meets-safe : (m : Module) → IsFlatModule m → MeetsConstraints m → IsSafe m (specs_of m) given_definitions
 meets-safe m flat meets = holds-safe m flat (meets (λ types params. true) (λ types params fit. refl))
+
+-- the same of the specs that the module has
+pub specs-safe : (m : Module) → IsFlatModule m → (s : Specs) → module_specs m ≡ Some s → MeetsConstraints m → IsSafe m s.functions s.defs
+specs-safe m flat s e meets = subst (λ (z : Specs). IsSafe m z.functions z.defs) (some-is _ _ (sym (flat-whole m flat) ∙ e)) (meets-safe m flat meets)

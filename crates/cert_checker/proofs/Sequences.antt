@@ -8,7 +8,7 @@ use Rattle.erl_tree.specs.declared.form.TreeForm.TheVariants as F
 use Rattle.erl_tree.specs.declared.form.Module.{Module}
 use Rattle.erl_tree.specs.Lists.{Every, Among}
 use Rattle.erl_tree.specs.Functions.{functions_in, functions_of, clauses_arity}
-use Rattle.erl_runs.specs.Specs.{specs_of}
+use Rattle.flat_modules.specs.FlatSpecs.{specs_of}
 use Rattle.erl_runs.specs.Membership.{arrows_of}
 use Rattle.cert_checker.specs.declared.refusal.FirstRefusal.{FirstRefusal}
 use Rattle.cert_checker.specs.declared.refusal.FirstRefusal.TheVariants.{NoMemory, Failed}

@@ -1,6 +1,6 @@
 -- The small modules of the examples, by computing.
 use Rattle.std.proofs.Common.{◌≡◌, refl, sym, ◌∙◌, ap, subst, inl, inr, ℕ, suc, ℤ, ◌+◌, ◌<◌, List, [], ◌∷◌, ◌++◌, arith}
-use Rattle.std.specs.Prelude.{Bool, true, false, ◌&&◌, nat_le, pos, negsuc, ◌-ℤ◌, codes, Option, Some, map, if◌then◌else◌}
+use Rattle.std.specs.Prelude.{Bool, true, false, ◌&&◌, nat_le, pos, negsuc, ◌-ℤ◌, codes, Option, Some, None, map, if◌then◌else◌}
 use Rattle.std.specs.Option.{unwrap_or}
 use Rattle.std.proofs.lemmas.Bool.{and_parts, true≢false, false≢true}
 use Rattle.type_terms.specs.Keys.{Name, same_name}
@@ -11,6 +11,12 @@ use Rattle.type_terms.specs.declared.spec.FunSpec.{FunSpec}
 use Rattle.type_terms.specs.declared.spec.Kind.TheVariants.{Operand as OperandKind, Call as CallKind, Result as ResultKind}
 use Rattle.type_terms.specs.Definitions.{given_definitions}
 use Rattle.type_terms.specs.Instances.{no_variables}
+use Rattle.type_terms.specs.Parts.{layer_children, layer_positive_children}
+use Rattle.type_terms.specs.Signs.{IsWellSigned}
+use Rattle.type_terms.specs.declared.term.Term.TheViews as Views
+use Rattle.type_terms.proofs.Contained.{contains-none}
+use Rattle.type_terms.proofs.PartLaws.{under-step}
+use Rattle.type_terms.proofs.SmallCases.{Kept, kept-even, no-names, no-name-leaf, well-signed, ints-well-signed}
 use Rattle.erl_tree.specs.declared.token.Node.{Node}
 use Rattle.erl_tree.specs.declared.token.Token.{Token}
 use Rattle.erl_tree.specs.declared.token.Token.TheVariants as T
@@ -29,7 +35,11 @@ use Rattle.erl_grammar.specs.TypeNesting.{IsTypeWithin}
 use Rattle.erl_grammar.specs.FormNesting.{form_deep, IsModuleWithin}
 use Rattle.erl_grammar.proofs.NestingLaws.{pattern_kind_deep-Var, expr_deep_laws, item_kind_deep-Value, clause_kind_deep-clause_of}
 use Rattle.erl_grammar.proofs.TypeNestingLaws.{type_deep_laws}
-use Rattle.erl_runs.specs.Specs.{type_term, and_then, all_present, clause_arrow, arrows_arity, function_spec, read_specs, specs_of, spec_id}
+use Rattle.erl_runs.specs.Specs.{and_then, all_present, spec_id}
+use Rattle.flat_modules.specs.FlatSpecs.{type_term, clause_arrow, arrows_arity, function_spec, read_specs, specs_of, module_specs_of, HasFlatSpecs}
+use Rattle.type_rules.specs.TypeParts.{from_each}
+use Rattle.type_rules.specs.TypeFaults.{listed_faults, IsWellSignedArrow}
+use Rattle.type_rules.proofs.TypeRuleLaws.{inside_equations}
 use Rattle.scope_rules.specs.ScopeFaults.{HasRightNames}
 use Rattle.scope_rules.proofs.OccurrenceLaws.{variables_equations, part_equations}
 use Rattle.scope_rules.proofs.FaultLaws.{pattern_fault_equations, fault_equations}
@@ -39,7 +49,8 @@ use Rattle.erl_tree.specs.Functions.{FunctionId, of_function, functions_of}
 use Rattle.flat_modules.specs.FlatModules.{IsFlatModule}
 use Rattle.flat_modules.proofs.TreeLaws.{expr_tokens_laws, type_tokens_laws}
 use Rattle.flat_modules.proofs.FlatLaws.{AreInLimit, flat-module}
-use Rattle.erl_runs.proofs.TypeTermLaws.{type_term_laws}
+use Rattle.flat_modules.proofs.FlatTermLaws.{type_term_laws}
+use Rattle.flat_modules.proofs.HasSpecs.{has-specs}
 use Rattle.flat_modules.proofs.FlatNameEquations.{called_laws}
 use Rattle.cert_checker.specs.Examples as X
 use Rattle.cert_checker.specs.Examples.{place, leaf, integer_type, small_spec_clause, small_spec, small_clause, small_module, identity, constant, recursive_call, recursive, two_calls, second_call_wrong, integers, spec_to_integers, small_specs}
@@ -127,6 +138,18 @@ clause-within line x e h = clause_kind_deep-clause_of _ _ _ nesting_limit ∙ (�
 function-within : (name : Name) (line dot : ℕ) (x : Name) (e : Node ExprKind) → IsExprWithin nesting_limit e → form_deep (F.Function (small_function name line dot x e)) nesting_limit ≡ []
 function-within name line dot x e h = λ j. clause-within line x e h j ++ []
 
+-- ---- signs
+
+abbrev AreWellSigned : List FunSpec → Type 0
+AreWellSigned specs = Every (IsWellSignedArrow given_definitions) (from_each (λ (f : FunSpec). f.clauses) specs)
+
+integers-signed : IsWellSigned given_definitions integers
+integers-signed = ints-well-signed given_definitions None None
+
+atom-signed : (a : Name) → IsWellSigned given_definitions (AtomLit a)
+atom-signed a = well-signed given_definitions (AtomLit a) (no-names given_definitions _ (no-name-leaf (AtomLit a) (ap layer_children (Views.outs-AtomLit a)) (λ e. omega arith)))
+    (under-step given_definitions Kept (AtomLit a) [] (ap layer_positive_children (Views.outs-AtomLit a)) (λ e. omega arith) (λ e. omega arith) (kept-even (AtomLit a)) (λ c k. absurd (contains-none c k)))
+
 -- ---- modules of one function
 
 module _ (dot : ℕ) (e : Node ExprKind) where
@@ -142,11 +165,20 @@ module _ (dot : ℕ) (e : Node ExprKind) where
     unfolding IsWellFormed Rattle.erl_tree.specs.declared.type_expr.TypeKind.TheViews.out-TypeKind denote.Hole.Carrier.out Rattle.erl_tree.specs.declared.pattern.PatternKind.TheViews.out-PatternKind Rattle.erl_tree.specs.declared.expr.ExprKind.TheViews.out-ItemKind Rattle.erl_tree.specs.declared.expr.ExprKind.TheBlock.shown-the_row-ExprKind-0 denote.Hole.Carrier.shown denote.Hole.Carrier.hidden
     small-formed = ((refl, (refl, (integer-formed 2 9, tt), omega arith, tt, integer-formed 2 23, refl)), ((refl, (refl, refl, (refl, tt), omega arith, tt, (refl, formed))), tt))
 
+    small-specs : HasFlatSpecs (small_module dot e)
+    small-specs = record {
+      specs_read = specs-read ∙ ap Some (sym specs-are);
+      specs_distinct = subst (λ (z : List FunSpec). AreDistinct (map spec_id z)) (sym specs-are) ((λ x. x), tt);
+    }
+
+    small-listed : listed_faults (small_module dot e) ≡ []
+    small-listed = simp (inside_equations)
+
     small-readable : IsReadable (small_module dot e)
     small-readable = record {
       right_names = names;
-      specs_read = specs-read ∙ ap Some (sym specs-are);
-      specs_distinct = subst (λ (z : List FunSpec). AreDistinct (map spec_id z)) (sym specs-are) ((λ x. x), tt);
+      specs = module_specs_of (small_module dot e);
+      has_specs = has-specs (small_module dot e) small-formed small-listed small-specs.specs_read (subst AreWellSigned (sym specs-are) (((integers-signed, tt), integers-signed), tt));
     }
 
     small-within : IsModuleWithin nesting_limit (small_module dot e)
@@ -154,7 +186,7 @@ module _ (dot : ℕ) (e : Node ExprKind) where
 
     pub small-flat : IsFlatModule (small_module dot e)
     unfolding Rattle.erl_tree.specs.declared.type_expr.TypeKind.TheViews.out-TypeKind denote.Hole.Carrier.out Rattle.erl_tree.specs.declared.pattern.PatternKind.TheViews.out-PatternKind Rattle.erl_tree.specs.declared.expr.ExprKind.TheViews.out-ItemKind Rattle.erl_tree.specs.declared.expr.ExprKind.TheBlock.shown-the_row-ExprKind-0 denote.Hole.Carrier.shown denote.Hole.Carrier.hidden
-    small-flat = flat-module (small_module dot e) small-formed small-readable ((((λ x. x), tt), tt), tt) (((called, tt), tt), tt) small-within limit
+    small-flat = flat-module (small_module dot e) small-formed small-readable small-specs ((((λ x. x), tt), tt), tt) (((called, tt), tt), tt) small-within limit
 
 -- an expression of one token
 leaf-flat : (e : ExprKind) → IsExpr (leaf 3 9 e) → HasRightNames (small_module 10 (leaf 3 9 e)) → Every (λ id. Among id (of_function (codes "f") 1 ∷ [])) (called_in e) → IsExprWithin nesting_limit (leaf 3 9 e) → AreInLimit (tokens_of (small_module 10 (leaf 3 9 e))) → IsFlatModule (small_module 10 (leaf 3 9 e))
@@ -375,11 +407,20 @@ two-own = subst (λ z. Every (λ id. Among id both_ids) z) (sym two-called) (inl
 second-names : HasRightNames second_call_wrong
 second-names = simp name_laws
 
+second-specs : HasFlatSpecs second_call_wrong
+second-specs = record {
+  specs_read = both-read ∙ ap Some (sym both-are);
+  specs_distinct = subst (λ (z : List FunSpec). AreDistinct (map spec_id z)) (sym both-are) both-distinct;
+}
+
+second-listed : listed_faults second_call_wrong ≡ []
+second-listed = simp (inside_equations)
+
 second-readable : IsReadable second_call_wrong
 second-readable = record {
   right_names = second-names;
-  specs_read = both-read ∙ ap Some (sym both-are);
-  specs_distinct = subst (λ (z : List FunSpec). AreDistinct (map spec_id z)) (sym both-are) both-distinct;
+  specs = module_specs_of second_call_wrong;
+  has_specs = has-specs second_call_wrong second-formed second-listed second-specs.specs_read (subst AreWellSigned (sym both-are) (((integers-signed, tt), integers-signed), (((atom-signed (codes "a"), tt), integers-signed), tt)));
 }
 
 second-within : IsModuleWithin nesting_limit second_call_wrong
@@ -389,7 +430,7 @@ second-within = λ j. spec-within (codes "f") 2 18 (integer_type 2 9) (integer-w
 
 pub second-flat : IsFlatModule second_call_wrong
 unfolding Rattle.erl_tree.specs.declared.type_expr.TypeKind.TheViews.out-TypeKind denote.Hole.Carrier.out Rattle.erl_tree.specs.declared.pattern.PatternKind.TheViews.out-PatternKind Rattle.erl_tree.specs.declared.expr.ExprKind.TheViews.out-ItemKind Rattle.erl_tree.specs.declared.expr.ExprKind.TheBlock.shown-the_row-ExprKind-0 denote.Hole.Carrier.shown denote.Hole.Carrier.hidden
-second-flat = flat-module second_call_wrong second-formed second-readable ((((λ x. x), tt), tt), ((((λ x. x), tt), tt), tt)) (((simp called_laws tt, tt), tt), (((two-own, tt), tt), tt)) second-within limit-second
+second-flat = flat-module second_call_wrong second-formed second-readable second-specs ((((λ x. x), tt), tt), ((((λ x. x), tt), tt), tt)) (((simp called_laws tt, tt), tt), (((two-own, tt), tt), tt)) second-within limit-second
 
 abbrev second_code : Code
 second_code = code_of second_call_wrong []

@@ -18,7 +18,8 @@ use Rattle.erl_tree.specs.declared.form.TreeForm.TheVariants as F
 use Rattle.erl_tree.specs.declared.form.Module.{Module}
 use Rattle.erl_tree.specs.Lists.{Every, Among, AreDistinct}
 use Rattle.erl_tree.specs.Functions.{FunctionId, clauses_arity, function_id, functions_of, function_ids, of_function, spec_clauses_arity}
-use Rattle.erl_runs.specs.Specs.{and_then, all_present, type_term, clause_arrow, function_spec, specs_in, specs_of, spec_id, specified_id}
+use Rattle.erl_runs.specs.Specs.{and_then, all_present, specs_in, spec_id, specified_id}
+use Rattle.flat_modules.specs.FlatSpecs.{type_term, clause_arrow, function_spec, specs_of}
 use Rattle.flat_modules.specs.Grammar.{IsSpec, IsSpecClause}
 use Rattle.flat_modules.specs.FlatModules.{IsFlatModule}
 use Rattle.flat_modules.proofs.FlatLaws.{flat-formed, flat-names}
@@ -206,15 +207,15 @@ pub found-arrow : (m : Module) (table : List Entry) (name : Name) (arity k : ℕ
 found-arrow m table name arity k flat holds a =
     let t : (s : Node SpecKind) × (slice_get m.forms k ≡ Some (F.Spec s)) × (specified_id s ≡ of_function name arity) = holds.sound (of_function name arity) k a in
     let b : Among t.0 (specs_in m.forms) = place-tree m.forms k t.0 t.1 in
-    let f : (f : FunSpec) × (function_spec t.0 ≡ Some f) × Among f (specs_of m) = tree-among (specs_in m.forms) (specs_of m) t.0 flat.readable.specs_read b in
+    let f : (f : FunSpec) × (function_spec t.0 ≡ Some f) × Among f (specs_of m) = tree-among (specs_in m.forms) (specs_of m) t.0 flat.flat_specs.specs_read b in
     let r : IsReadSpec t.0 f.0 = read-spec t.0 f.0 (every-at IsSpec t.0 (specs_in m.forms) (forms-specs m.forms (well_formed-forms m (flat-formed m flat))) b) f.1 in
     let q : spec_id f.0 ≡ of_function name arity = r.named ∙ t.2 in
-    (r.arrow, (t.0, t.1, r.first), ap (λ (z : FunctionId). arrows_of (specs_of m) z.name z.arity) (sym q) ∙ (arrows-found (specs_of m) f.0 f.2 flat.readable.specs_distinct ∙ r.only))
+    (r.arrow, (t.0, t.1, r.first), ap (λ (z : FunctionId). arrows_of (specs_of m) z.name z.arity) (sym q) ∙ (arrows-found (specs_of m) f.0 f.2 flat.flat_specs.specs_distinct ∙ r.only))
 
 pub is-found : (m : Module) (table : List Entry) (f : Function) → IsFlatModule m → HoldsSpecs m.forms (length m.forms) table → Among f (functions_of m) → (Among (function_id f) (ids table) → ⊥) → ⊥
 is-found m table f flat holds a absent =
     let d : Among (function_id f) (map spec_id (specs_of m)) = every-at _ (function_id f) (function_ids m) (flat-names m flat).specified (among-map function_id f (functions_of m) a) in
-    let t : (s : Node SpecKind) × (g : FunSpec) × Among s (specs_in m.forms) × (function_spec s ≡ Some g) × (function_id f ≡ spec_id g) = id-tree (specs_in m.forms) (specs_of m) (function_id f) flat.readable.specs_read d in
+    let t : (s : Node SpecKind) × (g : FunSpec) × Among s (specs_in m.forms) × (function_spec s ≡ Some g) × (function_id f ≡ spec_id g) = id-tree (specs_in m.forms) (specs_of m) (function_id f) flat.flat_specs.specs_read d in
     let p : (k : ℕ) × (slice_get m.forms k ≡ Some (F.Spec t.0)) = tree-place m.forms t.0 t.2 in
     let r : IsReadSpec t.0 t.1 = read-spec t.0 t.1 (every-at IsSpec t.0 (specs_in m.forms) (forms-specs m.forms (well_formed-forms m (flat-formed m flat))) t.2) t.3 in
     absent (subst (λ z. Among z (ids table)) (sym (t.4 ∙ r.named)) (holds.complete p.0 t.0 (slice_get_within m.forms p.0 (F.Spec t.0) p.1) p.1))
@@ -223,18 +224,18 @@ is-found m table f flat holds a absent =
 pub own-arrow : (m : Module) (f : Function) → IsFlatModule m → Among f (functions_of m) → (arrow : Arrow) × (arrows_of (specs_of m) f.name (clauses_arity f.clauses) ≡ arrow ∷ []) × (clauses_arity f.clauses ≡ length arrow.params)
 own-arrow m f flat a =
     let d : Among (function_id f) (map spec_id (specs_of m)) = every-at _ (function_id f) (function_ids m) (flat-names m flat).specified (among-map function_id f (functions_of m) a) in
-    let t : (s : Node SpecKind) × (g : FunSpec) × Among s (specs_in m.forms) × (function_spec s ≡ Some g) × (function_id f ≡ spec_id g) = id-tree (specs_in m.forms) (specs_of m) (function_id f) flat.readable.specs_read d in
-    let b : (g : FunSpec) × (function_spec t.0 ≡ Some g) × Among g (specs_of m) = tree-among (specs_in m.forms) (specs_of m) t.0 flat.readable.specs_read t.2 in
+    let t : (s : Node SpecKind) × (g : FunSpec) × Among s (specs_in m.forms) × (function_spec s ≡ Some g) × (function_id f ≡ spec_id g) = id-tree (specs_in m.forms) (specs_of m) (function_id f) flat.flat_specs.specs_read d in
+    let b : (g : FunSpec) × (function_spec t.0 ≡ Some g) × Among g (specs_of m) = tree-among (specs_in m.forms) (specs_of m) t.0 flat.flat_specs.specs_read t.2 in
     let r : IsReadSpec t.0 b.0 = read-spec t.0 b.0 (every-at IsSpec t.0 (specs_in m.forms) (forms-specs m.forms (well_formed-forms m (flat-formed m flat))) t.2) b.1 in
     let q : function_id f ≡ spec_id b.0 = t.4 ∙ ap spec_id (some-inj t.1 b.0 (sym t.3 ∙ b.1)) in
-    let o : arrows_of (specs_of m) f.name (clauses_arity f.clauses) ≡ r.arrow ∷ [] = ap (λ (z : FunctionId). arrows_of (specs_of m) z.name z.arity) q ∙ (arrows-found (specs_of m) b.0 b.2 flat.readable.specs_distinct ∙ r.only) in
-    let one : Every HasOneArrow (specs_of m) = one-arrow-each (specs_in m.forms) (specs_of m) (forms-specs m.forms (well_formed-forms m (flat-formed m flat))) flat.readable.specs_read in
+    let o : arrows_of (specs_of m) f.name (clauses_arity f.clauses) ≡ r.arrow ∷ [] = ap (λ (z : FunctionId). arrows_of (specs_of m) z.name z.arity) q ∙ (arrows-found (specs_of m) b.0 b.2 flat.flat_specs.specs_distinct ∙ r.only) in
+    let one : Every HasOneArrow (specs_of m) = one-arrow-each (specs_in m.forms) (specs_of m) (forms-specs m.forms (well_formed-forms m (flat-formed m flat))) flat.flat_specs.specs_read in
     (r.arrow, o, sym (arrow-arity (specs_of m) f.name (clauses_arity f.clauses) r.arrow one (subst (λ (z : List Arrow). Contains z r.arrow) (sym o) (contains-first r.arrow []))))
 
 -- a function with an arrow is in the table
 pub is-specified : (m : Module) (table : List Entry) (name : Name) (arity : ℕ) (arrow : Arrow) → IsFlatModule m → HoldsSpecs m.forms (length m.forms) table → arrows_of (specs_of m) name arity ≡ arrow ∷ [] → (Among (of_function name arity) (ids table) → ⊥) → ⊥
 is-specified m table name arity arrow flat holds e absent = empty (sym e ∙ arrows-none (specs_of m) name arity (λ d.
-    let t : (s : Node SpecKind) × (g : FunSpec) × Among s (specs_in m.forms) × (function_spec s ≡ Some g) × (of_function name arity ≡ spec_id g) = id-tree (specs_in m.forms) (specs_of m) (of_function name arity) flat.readable.specs_read d in
+    let t : (s : Node SpecKind) × (g : FunSpec) × Among s (specs_in m.forms) × (function_spec s ≡ Some g) × (of_function name arity ≡ spec_id g) = id-tree (specs_in m.forms) (specs_of m) (of_function name arity) flat.flat_specs.specs_read d in
     let p : (k : ℕ) × (slice_get m.forms k ≡ Some (F.Spec t.0)) = tree-place m.forms t.0 t.2 in
     let r : IsReadSpec t.0 t.1 = read-spec t.0 t.1 (every-at IsSpec t.0 (specs_in m.forms) (forms-specs m.forms (well_formed-forms m (flat-formed m flat))) t.2) t.3 in
     absent (subst (λ z. Among z (ids table)) (sym (t.4 ∙ r.named)) (holds.complete p.0 t.0 (slice_get_within m.forms p.0 (F.Spec t.0) p.1) p.1))))
@@ -245,5 +246,5 @@ is-specified m table name arity arrow flat holds e absent = empty (sym e ∙ arr
 -- an arrow of a function of a flat module has as many parameters as the function
 pub arrow-length-of : (m : Module) (name : Name) (arity : ℕ) (arrow : Arrow) → IsFlatModule m → arrows_of (specs_of m) name arity ≡ arrow ∷ [] → length arrow.params ≡ arity
 arrow-length-of m name arity arrow flat e =
-    let one : Every HasOneArrow (specs_of m) = one-arrow-each (specs_in m.forms) (specs_of m) (forms-specs m.forms (well_formed-forms m (flat-formed m flat))) flat.readable.specs_read in
+    let one : Every HasOneArrow (specs_of m) = one-arrow-each (specs_in m.forms) (specs_of m) (forms-specs m.forms (well_formed-forms m (flat-formed m flat))) flat.flat_specs.specs_read in
     arrow-arity (specs_of m) name arity arrow one (subst (λ (z : List Arrow). Contains z arrow) (sym e) (contains-first arrow []))

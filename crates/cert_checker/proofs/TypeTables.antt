@@ -10,7 +10,8 @@ use Rattle.erl_tree.specs.declared.form.SpecKind.{SpecKind}
 use Rattle.erl_tree.specs.declared.form.SpecClauseKind.{SpecClauseKind}
 use Rattle.erl_tree.specs.declared.form.TreeForm.{TreeForm}
 use Rattle.erl_tree.specs.declared.form.TreeForm.TheVariants as F
-use Rattle.erl_runs.specs.Specs.{and_then, all_present, type_term, clause_arrow}
+use Rattle.erl_runs.specs.Specs.{and_then, all_present}
+use Rattle.flat_modules.specs.FlatSpecs.{type_term, clause_arrow}
 use Rattle.cert_checker.specs.declared.spec_table.FunctionTypes.{FunctionTypes}
 use Rattle.cert_checker.specs.declared.spec_table.FormTypes.{FormTypes}
 use Rattle.cert_checker.specs.declared.spec_table.FormTypes.TheVariants.{Spec}

@@ -21,7 +21,8 @@ use Rattle.key_sets.specs.declared.part.Part.TheVariants.{Integers, Atom, Atoms}
 use Rattle.key_sets.specs.declared.key_set.KeySet.{KeySet}
 use Rattle.key_sets.specs.KeySets.{has}
 use Rattle.key_sets.specs.Parts.{IsLimited, IsLimitedEnd, AreLimited, part_has, parts_have}
-use Rattle.erl_runs.specs.Specs.{one_integer, range, built_in_type}
+use Rattle.erl_runs.specs.Specs.{one_integer, range}
+use Rattle.flat_modules.specs.FlatSpecs.{built_in_type}
 use Rattle.erl_runs.specs.Value.{Value, integer, atom, nil, cons, tuple, map_of, named_fun, closure}
 use Rattle.erl_runs.specs.Membership.{Program, InTerm, levels_below, layer, no_tag}
 use Rattle.cert_checker.specs.FlatTypes.{has_value, HasValuesOf, IsSetOf, IsPartOf, AddsPartsOf, is_limited}

@@ -24,7 +24,8 @@ use Rattle.erl_tree.specs.declared.expr.ExprKind.TheOpen as E
 use Rattle.erl_tree.specs.declared.form.Function.{Function}
 use Rattle.erl_tree.specs.declared.form.Module.{Module}
 use Rattle.erl_tree.specs.Functions.{functions_of, clauses_arity}
-use Rattle.erl_runs.specs.Specs.{specs_of, and_then, one_integer}
+use Rattle.erl_runs.specs.Specs.{and_then, one_integer}
+use Rattle.flat_modules.specs.FlatSpecs.{specs_of}
 use Rattle.flat_modules.specs.FlatNames.{bound_layer}
 use Rattle.erl_runs.specs.Value.{Value}
 use Rattle.erl_runs.specs.Membership.{Program, InTerm, arrows_of}

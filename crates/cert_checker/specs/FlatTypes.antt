@@ -19,7 +19,8 @@ use Rattle.erl_tree.specs.declared.expr.ExprKind.{ExprKind, fold-ExprKind}
 use Rattle.erl_tree.specs.declared.expr.ExprKind.TheOpen as E
 use Rattle.flat_modules.specs.Grammar.{IsType, IsExpr}
 use Rattle.erl_tree.specs.Limits.{integer_limit}
-use Rattle.erl_runs.specs.Specs.{and_then, end_of, range, type_term}
+use Rattle.erl_runs.specs.Specs.{and_then, range}
+use Rattle.flat_modules.specs.FlatSpecs.{end_of, type_term}
 use Rattle.erl_runs.specs.Value.{Value, integer, atom}
 use Rattle.erl_runs.specs.Membership.{Program, InTerm}
 

@@ -1,8 +1,8 @@
 ghost use Rattle.std.specs.Prelude.{◌≡◌, ◌+◌, ◌<◌, ℕ, Some, [], ◌∷◌, length, slice_get, OnOk, IfOk, IfErr};
-ghost use Rattle.type_terms.specs.Definitions.{given_definitions};
 ghost use Rattle.erl_tree.specs.Lists.{Every, Among};
 ghost use Rattle.erl_tree.specs.Functions.{functions_in, functions_of, clauses_arity};
-ghost use Rattle.erl_runs.specs.Specs.{specs_of};
+ghost use Rattle.type_rules.specs.SpecTerms.{module_specs};
+ghost use Rattle.flat_modules.specs.FlatSpecs.{specs_of};
 ghost use Rattle.flat_modules.specs.FlatModules.{IsFlatModule};
 ghost use Rattle.erl_runs.specs.Membership.{arrows_of};
 ghost use Rattle.erl_runs.specs.Safety.{IsSafe};
@@ -15,19 +15,21 @@ use crate::refusal::FirstRefusal;
 use crate::spec_table::{SpecTable, spec_table};
 use erl_tree::{Function, Module, TreeForm};
 use std::alloc::Global;
+use type_rules::Specs;
 
-/// Checks that a flat module is safe: that operands are integers, that calls are within the specs of
-/// the functions that are called, and that the body of each function is within the result of the
-/// function's spec.
+/// Checks that a flat module with these specs is safe: that operands are integers, that calls are within
+/// the specs of the functions that are called, and that the body of each function is within the result of
+/// the function's spec. The types are read from the tree, where they have the same terms as in `specs`.
 ///
 /// # Errors
 ///
 /// `Failed` with the first constraint that fails: its function, the place of the operand, the call or
 /// the body, and an element that shows it. `NoMemory` where memory runs out.
-pub fn check_first(alloc: Global, module: &Module) -> Result<(), FirstRefusal>
-    requires { IsFlatModule «module».now }
+pub fn check_first(alloc: Global, module: &Module, specs: &Specs) -> Result<(), FirstRefusal>
+    requires flat { IsFlatModule «module».now }
+    requires specs { module_specs «module».now ≡ Some specs.now }
     ensures holds { OnOk result (MeetsConstraints «module».now) }
-    ensures safe { OnOk result (IsSafe «module».now (specs_of «module».now) given_definitions) }
+    ensures safe { OnOk result (IsSafe «module».now specs.now.functions specs.now.defs) }
     ensures failed { IfErr result (ShowsFirstFailure «module».now) }
 {
     let table = spec_table(alloc, &module.forms)?;

@@ -7,7 +7,7 @@ ghost use Rattle.type_terms.specs.declared.spec.Kind.TheVariants.{Call as CallKi
 ghost use Rattle.flat_modules.specs.FlatModules.{IsFlatModule};
 ghost use Rattle.erl_runs.specs.Running.{apply, code_of};
 ghost use Rattle.erl_runs.specs.Safety.{IsSafe};
-ghost use Rattle.erl_runs.specs.Specs.{specs_of, type_term};
+ghost use Rattle.flat_modules.specs.FlatSpecs.{specs_of, type_term};
 ghost use Rattle.erl_runs.specs.Value.{integer, atom, named_fun, came, wrong, going};
 ghost use Rattle.cert_checker.specs.declared.refusal.Shown.TheVariants.{One, Missing};
 ghost use Rattle.cert_checker.specs.declared.refusal.FirstRefusal.TheVariants.{Failed};

@@ -1,6 +1,7 @@
 ghost use Rattle.std.specs.Prelude.{◌≡◌, ℤ, neg_ℤ, true, Some, IfOk, OnOk};
 ghost use Rattle.type_terms.specs.declared.term.Term.{Term};
-ghost use Rattle.erl_runs.specs.Specs.{one_integer, end_of, type_term, built_in_type};
+ghost use Rattle.erl_runs.specs.Specs.{one_integer};
+ghost use Rattle.flat_modules.specs.FlatSpecs.{end_of, type_term, built_in_type};
 ghost use Rattle.cert_checker.specs.FlatTypes.{IsSetOf, IsPartOf, IsFlatType, AddsPartsOf, is_limited, is_limited_end, range_term};
 
 use erl_tree::{Literal, LiteralKind, TypeExpr, TypeKind};

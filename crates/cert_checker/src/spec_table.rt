@@ -2,7 +2,8 @@ ghost use Rattle.std.specs.Prelude.{◌≡◌, List, Some, OnOk, IfOk, length, m
 ghost use Rattle.type_terms.specs.declared.term.Term.{Term};
 ghost use Rattle.type_terms.specs.declared.spec.Arrow.{Arrow};
 ghost use Rattle.erl_tree.specs.Lists.{Every};
-ghost use Rattle.erl_runs.specs.Specs.{type_term, all_present};
+ghost use Rattle.erl_runs.specs.Specs.{all_present};
+ghost use Rattle.flat_modules.specs.FlatSpecs.{type_term};
 ghost use Rattle.cert_checker.specs.declared.spec_table.FunctionTypes.{FunctionTypes};
 ghost use Rattle.cert_checker.specs.declared.spec_table.FormTypes.TheVariants.{Spec};
 ghost use Rattle.cert_checker.specs.FlatTypes.{IsFlatType, AreSetsOf};

@@ -9,8 +9,6 @@ pub mod Falls
 pub mod ReplacedTerms
 pub mod InstanceReads
 pub mod MembershipExamples
-pub mod TypeTermLaws
-pub mod TypeExamples
 pub mod TextExamples
 pub mod Orders
 pub mod OrderTurns

@@ -5,7 +5,6 @@
 pub mod examples;
 pub mod examples_of_runs;
 pub mod examples_of_texts;
-pub mod examples_of_types;
 pub mod laws;
 pub mod laws_of_levels;
 pub mod laws_of_runs;

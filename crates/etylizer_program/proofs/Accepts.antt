@@ -2,7 +2,7 @@
 use Rattle.std.proofs.Common.{◌≡◌, ◌∙◌, ◌⊎◌, ℕ, List, Option, ap, subst, inl, inr, arith}
 use Rattle.etylizer_program.specs.declared.report.Verdict.{Verdict}
 use Rattle.etylizer_program.specs.declared.report.Verdict.TheVariants as V
-use Rattle.etylizer_program.specs.Outside.{Holdings, Puts}
+use Rattle.tool_io.specs.Outside.{Holdings, Puts}
 use Rattle.etylizer_program.specs.Report.{report_text}
 use Rattle.etylizer_program.specs.Check.{IsSummary, function_count, spec_clause_count}
 use Rattle.erl_tree.specs.declared.form.Module.{Module}

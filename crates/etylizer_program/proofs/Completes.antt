@@ -10,6 +10,13 @@ use Rattle.erl_grammar.specs.FormNesting.{IsModuleWithin, module_deep}
 use Rattle.scope_rules.specs.declared.fault.NameFault.TheVariants as N
 use Rattle.scope_rules.specs.declared.fault.PlacedFault.{PlacedFault}
 use Rattle.scope_rules.specs.ScopeFaults.{faults_of, HasRightNames, IsFirstFault as IsFirstNameFault}
+use Rattle.type_rules.specs.declared.fault.TypeFault.TheVariants as T
+use Rattle.type_rules.specs.declared.fault.PlacedFault.{PlacedFault as TypePlacedFault}
+use Rattle.type_rules.specs.declared.specs.Specs.{Specs}
+use Rattle.type_rules.specs.TypeFaults.{HasSpecs, IsFirstFault as IsFirstSpecFault, fault_at, outside_words}
+use Rattle.type_laws.proofs.FirstFault.{one-first, no-first}
+use Rattle.typespecs.specs.FaultPlaces.{placed_fault as placed_spec_fault}
+use Rattle.readable_modules.specs.Readable.{IsReadable}
 use Rattle.erl_scope.specs.FaultPlaces.{placed_fault}
 use Rattle.erl_scope.proofs.OneFirst.{IsFirstFault-same}
 use Rattle.flat_modules.specs.FlatModules.{IsFlatModule}
@@ -31,12 +38,12 @@ use Rattle.etylizer_program.specs.declared.report.Verdict.TheVariants as V
 use Rattle.etylizer_program.specs.declared.report.Words.{Words}
 use Rattle.etylizer_program.specs.declared.report.Words.TheVariants as W
 use Rattle.erl_tree.specs.declared.token.Place.{Place}
-use Rattle.etylizer_program.specs.Outside.{Holdings, Puts}
+use Rattle.tool_io.specs.Outside.{Holdings, Puts}
 use Rattle.etylizer_program.specs.Commands.{command_of}
 use Rattle.etylizer_program.specs.Report.{report_text}
-use Rattle.etylizer_program.specs.Check.{text_limit, IsFirstFault, IsUnexpected, IsOutOfProfile, IsTooDeep, IsNoText, IsParseRefusal, IsParsedAs, HasNoModule, HasWrongNames, HasToldFault, IsNotBuilt, IsNoModuleAnswer, IsWrongNamesAnswer, fault_words, placed, IsRightText, IsReadAs, IsAcceptedText, IsTextRefusal, IsTextVerdict}
+use Rattle.etylizer_program.specs.Check.{text_limit, IsFirstFault, IsUnexpected, IsOutOfProfile, IsTooDeep, IsNoText, IsParseRefusal, IsParsedAs, HasNoModule, HasWrongNames, HasWrongSpecs, HasToldFault, HasToldSpecFault, IsNotBuilt, IsNoModuleAnswer, IsWrongNamesAnswer, IsWrongSpecsAnswer, fault_words, spec_fault_words, placed, IsRightText, IsReadAs, IsAcceptedText, IsTextRefusal, IsTextVerdict}
 use Rattle.cert_checker.specs.Failures.{ShowsFirstFailure}
-use Rattle.etylizer_program.specs.Tool.{IsCheckOf, Judges, NamesText, NamesNoModule, NamesNotBuilt, NamesRightModule, NamesWrongNames, verdict_status}
+use Rattle.etylizer_program.specs.Tool.{IsCheckOf, Judges, NamesText, NamesNoModule, NamesNotBuilt, NamesRightModule, NamesWrongNames, NamesWrongSpecs, verdict_status}
 
 -- ---- tokens and faults
 
@@ -112,23 +119,65 @@ told_same : (text : List ℕ) (f : PlacedFault) (o : Option PlacedFault) → Has
 told_same text f None w is = absurd is
 told_same text f (Some g) w is = ap Some (same_fault text g f is w)
 
-no_text_none : (text : List ℕ) (m : Module) (place : Place) (words : Words) → IsParsedAs text m → HasRightNames m → IsNoText text place words → ⊥
-no_text_none text m place W.BadToken p right is = no_fault text (module_tokens m) (L.BadToken place) p.lexed is
-no_text_none text m place W.BadEscape p right is = no_fault text (module_tokens m) (L.BadEscape place) p.lexed is
-no_text_none text m place W.NumberTooWide p right is = no_fault text (module_tokens m) (L.WideNumber place) p.lexed is
-no_text_none text m place (W.OutOfProfile form) p right (inl is) = no_fault text (module_tokens m) (L.OutOfProfile place form) p.lexed is
-no_text_none text m place (W.OutOfProfile form) p right (inr is) = outside_none text m place form p is
-no_text_none text m place W.Unexpected p right is = unexpected_none text m p is
-no_text_none text m place W.TooDeep p right is = deep_none text m place p is
-no_text_none text m place W.UnboundVariable p right is = wrong_right text m (placed N.Unbound place) p right is
-no_text_none text m place W.UnsafeVariable p right is = wrong_right text m (placed N.Unsafe place) p right is
-no_text_none text m place W.NoSuchFunction p right is = wrong_right text m (placed N.NoSuchFunction place) p right is
-no_text_none text m place W.TwoFunctions p right is = wrong_right text m (placed N.TwoFunctions place) p right is
-no_text_none text m place W.NoSpec p right is = wrong_right text m (placed N.NoSpec place) p right is
-no_text_none text m place W.NoSuchRecord p right is = wrong_right text m (placed N.NoSuchRecord place) p right is
-no_text_none text m place W.NoSuchField p right is = wrong_right text m (placed N.NoSuchField place) p right is
-no_text_none text m place W.Repeated p right is = wrong_right text m (placed N.Repeated place) p right is
-no_text_none text m place W.ArityDiffers p right is = wrong_right text m (placed N.ArityDiffers place) p right is
+-- ---- types, records and specs
+
+-- they aren't both right and wrong
+specs_right : (text : List ℕ) (m : Module) (f : TypePlacedFault) → IsParsedAs text m → IsReadable m → HasWrongSpecs text f → ⊥
+specs_right text m f p readable w = no-first m readable.specs f readable.has_specs (subst (λ (n : Module). IsFirstSpecFault n f) (same_parsed text w.tree m w.parsed p) w.first)
+
+told_specs_right : (text : List ℕ) (m : Module) (o : Option TypePlacedFault) → IsParsedAs text m → IsReadable m → HasToldSpecFault text o → ⊥
+told_specs_right text m None p readable is = is
+told_specs_right text m (Some f) p readable is = specs_right text m f p readable is
+
+-- a fault is told of a module
+told_specs_module : (text : List ℕ) (o : Option TypePlacedFault) → HasNoModule text → HasToldSpecFault text o → ⊥
+told_specs_module text None none is = is
+told_specs_module text (Some f) none is = none is.tree is.parsed
+
+-- where names are wrong no fault of specs is told
+names_first : (text : List ℕ) (f : PlacedFault) (g : TypePlacedFault) → HasWrongNames text f → HasWrongSpecs text g → ⊥
+names_first text f g w v = wrong_right text v.tree f v.parsed v.right_names w
+
+told_specs_names : (text : List ℕ) (f : PlacedFault) (o : Option TypePlacedFault) → HasWrongNames text f → HasToldSpecFault text o → ⊥
+told_specs_names text f None w is = is
+told_specs_names text f (Some g) w is = names_first text f g w is
+
+told_names_specs : (text : List ℕ) (g : TypePlacedFault) (o : Option PlacedFault) → HasWrongSpecs text g → HasToldFault text o → ⊥
+told_names_specs text g None v is = is
+told_names_specs text g (Some f) v is = names_first text f g is v
+
+-- a text has one first fault of types, records and specs
+same_spec_fault : (text : List ℕ) (f g : TypePlacedFault) → HasWrongSpecs text f → HasWrongSpecs text g → f ≡ g
+same_spec_fault text f g w v = one-first v.tree f g (subst (λ (n : Module). IsFirstSpecFault n f) (same_parsed text w.tree v.tree w.parsed v.parsed) w.first) v.first
+
+told_specs_same : (text : List ℕ) (f : TypePlacedFault) (o : Option TypePlacedFault) → HasWrongSpecs text f → HasToldSpecFault text o → o ≡ Some f
+told_specs_same text f None w is = absurd is
+told_specs_same text f (Some g) w is = ap Some (same_spec_fault text g f is w)
+
+no_text_none : (text : List ℕ) (m : Module) (place : Place) (words : Words) → IsParsedAs text m → IsReadable m → IsNoText text place words → ⊥
+no_text_none text m place W.BadToken p readable is = no_fault text (module_tokens m) (L.BadToken place) p.lexed is
+no_text_none text m place W.BadEscape p readable is = no_fault text (module_tokens m) (L.BadEscape place) p.lexed is
+no_text_none text m place W.NumberTooWide p readable is = no_fault text (module_tokens m) (L.WideNumber place) p.lexed is
+no_text_none text m place (W.OutOfProfile form) p readable (inl is) = no_fault text (module_tokens m) (L.OutOfProfile place form) p.lexed is
+no_text_none text m place (W.OutOfProfile form) p readable (inr (inl is)) = outside_none text m place form p is
+no_text_none text m place (W.OutOfProfile form) p readable (inr (inr is)) = specs_right text m (fault_at (T.OutOfProfile is.0) place) p readable is.2
+no_text_none text m place W.Unexpected p readable is = unexpected_none text m p is
+no_text_none text m place W.TooDeep p readable is = deep_none text m place p is
+no_text_none text m place W.UnboundVariable p readable is = wrong_right text m (placed N.Unbound place) p readable.right_names is
+no_text_none text m place W.UnsafeVariable p readable is = wrong_right text m (placed N.Unsafe place) p readable.right_names is
+no_text_none text m place W.NoSuchFunction p readable is = wrong_right text m (placed N.NoSuchFunction place) p readable.right_names is
+no_text_none text m place W.TwoFunctions p readable is = wrong_right text m (placed N.TwoFunctions place) p readable.right_names is
+no_text_none text m place W.NoSpec p readable is = wrong_right text m (placed N.NoSpec place) p readable.right_names is
+no_text_none text m place W.NoSuchRecord p readable is = wrong_right text m (placed N.NoSuchRecord place) p readable.right_names is
+no_text_none text m place W.NoSuchField p readable is = wrong_right text m (placed N.NoSuchField place) p readable.right_names is
+no_text_none text m place W.Repeated p readable (inl is) = wrong_right text m (placed N.Repeated place) p readable.right_names is
+no_text_none text m place W.Repeated p readable (inr is) = specs_right text m (fault_at T.Repeated place) p readable is
+no_text_none text m place W.ArityDiffers p readable (inl is) = wrong_right text m (placed N.ArityDiffers place) p readable.right_names is
+no_text_none text m place W.ArityDiffers p readable (inr is) = specs_right text m (fault_at T.ArityDiffers place) p readable is
+no_text_none text m place W.NoSuchType p readable is = specs_right text m (fault_at T.NoSuchType place) p readable is
+no_text_none text m place W.NotContractive p readable is = specs_right text m (fault_at T.NotContractive place) p readable is
+no_text_none text m place W.NegatedFun p readable is = specs_right text m (fault_at T.NegatedFun place) p readable is
+no_text_none text m place W.EmptyRange p readable is = specs_right text m (fault_at T.BadRange place) p readable is
 
 -- a text whose names are wrong is refused by the words of its first fault
 wrong_text : (text : List ℕ) (f : PlacedFault) (place : Place) (words : Words) → HasWrongNames text f → IsNoText text place words → V.NotText place words ≡ V.NotText f.place (fault_words f.fault)
@@ -136,7 +185,8 @@ wrong_text text f place W.BadToken w is = absurd (no_fault text (module_tokens w
 wrong_text text f place W.BadEscape w is = absurd (no_fault text (module_tokens w.tree) (L.BadEscape place) w.parsed.lexed is)
 wrong_text text f place W.NumberTooWide w is = absurd (no_fault text (module_tokens w.tree) (L.WideNumber place) w.parsed.lexed is)
 wrong_text text f place (W.OutOfProfile form) w (inl is) = absurd (no_fault text (module_tokens w.tree) (L.OutOfProfile place form) w.parsed.lexed is)
-wrong_text text f place (W.OutOfProfile form) w (inr is) = absurd (outside_none text w.tree place form w.parsed is)
+wrong_text text f place (W.OutOfProfile form) w (inr (inl is)) = absurd (outside_none text w.tree place form w.parsed is)
+wrong_text text f place (W.OutOfProfile form) w (inr (inr is)) = absurd (names_first text f (fault_at (T.OutOfProfile is.0) place) w is.2)
 wrong_text text f place W.Unexpected w is = absurd (unexpected_none text w.tree w.parsed is)
 wrong_text text f place W.TooDeep w is = absurd (deep_none text w.tree place w.parsed is)
 wrong_text text f place W.UnboundVariable w is = ap (λ (z : PlacedFault). V.NotText z.place (fault_words z.fault)) (same_fault text (placed N.Unbound place) f is w)
@@ -146,8 +196,41 @@ wrong_text text f place W.TwoFunctions w is = ap (λ (z : PlacedFault). V.NotTex
 wrong_text text f place W.NoSpec w is = ap (λ (z : PlacedFault). V.NotText z.place (fault_words z.fault)) (same_fault text (placed N.NoSpec place) f is w)
 wrong_text text f place W.NoSuchRecord w is = ap (λ (z : PlacedFault). V.NotText z.place (fault_words z.fault)) (same_fault text (placed N.NoSuchRecord place) f is w)
 wrong_text text f place W.NoSuchField w is = ap (λ (z : PlacedFault). V.NotText z.place (fault_words z.fault)) (same_fault text (placed N.NoSuchField place) f is w)
-wrong_text text f place W.Repeated w is = ap (λ (z : PlacedFault). V.NotText z.place (fault_words z.fault)) (same_fault text (placed N.Repeated place) f is w)
-wrong_text text f place W.ArityDiffers w is = ap (λ (z : PlacedFault). V.NotText z.place (fault_words z.fault)) (same_fault text (placed N.ArityDiffers place) f is w)
+wrong_text text f place W.Repeated w (inl is) = ap (λ (z : PlacedFault). V.NotText z.place (fault_words z.fault)) (same_fault text (placed N.Repeated place) f is w)
+wrong_text text f place W.Repeated w (inr is) = absurd (names_first text f (fault_at T.Repeated place) w is)
+wrong_text text f place W.ArityDiffers w (inl is) = ap (λ (z : PlacedFault). V.NotText z.place (fault_words z.fault)) (same_fault text (placed N.ArityDiffers place) f is w)
+wrong_text text f place W.ArityDiffers w (inr is) = absurd (names_first text f (fault_at T.ArityDiffers place) w is)
+wrong_text text f place W.NoSuchType w is = absurd (names_first text f (fault_at T.NoSuchType place) w is)
+wrong_text text f place W.NotContractive w is = absurd (names_first text f (fault_at T.NotContractive place) w is)
+wrong_text text f place W.NegatedFun w is = absurd (names_first text f (fault_at T.NegatedFun place) w is)
+wrong_text text f place W.EmptyRange w is = absurd (names_first text f (fault_at T.BadRange place) w is)
+
+-- a text whose names are right and whose types, records or specs are wrong is refused by the words of their first fault
+wrong_specs_text : (text : List ℕ) (f : TypePlacedFault) (place : Place) (words : Words) → HasWrongSpecs text f → IsNoText text place words → V.NotText place words ≡ V.NotText f.place (spec_fault_words f.fault)
+wrong_specs_text text f place W.BadToken w is = absurd (no_fault text (module_tokens w.tree) (L.BadToken place) w.parsed.lexed is)
+wrong_specs_text text f place W.BadEscape w is = absurd (no_fault text (module_tokens w.tree) (L.BadEscape place) w.parsed.lexed is)
+wrong_specs_text text f place W.NumberTooWide w is = absurd (no_fault text (module_tokens w.tree) (L.WideNumber place) w.parsed.lexed is)
+wrong_specs_text text f place (W.OutOfProfile form) w (inl is) = absurd (no_fault text (module_tokens w.tree) (L.OutOfProfile place form) w.parsed.lexed is)
+wrong_specs_text text f place (W.OutOfProfile form) w (inr (inl is)) = absurd (outside_none text w.tree place form w.parsed is)
+wrong_specs_text text f place (W.OutOfProfile form) w (inr (inr is)) =
+    ap (λ words. V.NotText place (W.OutOfProfile words)) is.1 ∙ ap (λ (z : TypePlacedFault). V.NotText z.place (spec_fault_words z.fault)) (same_spec_fault text (fault_at (T.OutOfProfile is.0) place) f is.2 w)
+wrong_specs_text text f place W.Unexpected w is = absurd (unexpected_none text w.tree w.parsed is)
+wrong_specs_text text f place W.TooDeep w is = absurd (deep_none text w.tree place w.parsed is)
+wrong_specs_text text f place W.UnboundVariable w is = absurd (names_first text (placed N.Unbound place) f is w)
+wrong_specs_text text f place W.UnsafeVariable w is = absurd (names_first text (placed N.Unsafe place) f is w)
+wrong_specs_text text f place W.NoSuchFunction w is = absurd (names_first text (placed N.NoSuchFunction place) f is w)
+wrong_specs_text text f place W.TwoFunctions w is = absurd (names_first text (placed N.TwoFunctions place) f is w)
+wrong_specs_text text f place W.NoSpec w is = absurd (names_first text (placed N.NoSpec place) f is w)
+wrong_specs_text text f place W.NoSuchRecord w is = absurd (names_first text (placed N.NoSuchRecord place) f is w)
+wrong_specs_text text f place W.NoSuchField w is = absurd (names_first text (placed N.NoSuchField place) f is w)
+wrong_specs_text text f place W.Repeated w (inl is) = absurd (names_first text (placed N.Repeated place) f is w)
+wrong_specs_text text f place W.Repeated w (inr is) = ap (λ (z : TypePlacedFault). V.NotText z.place (spec_fault_words z.fault)) (same_spec_fault text (fault_at T.Repeated place) f is w)
+wrong_specs_text text f place W.ArityDiffers w (inl is) = absurd (names_first text (placed N.ArityDiffers place) f is w)
+wrong_specs_text text f place W.ArityDiffers w (inr is) = ap (λ (z : TypePlacedFault). V.NotText z.place (spec_fault_words z.fault)) (same_spec_fault text (fault_at T.ArityDiffers place) f is w)
+wrong_specs_text text f place W.NoSuchType w is = ap (λ (z : TypePlacedFault). V.NotText z.place (spec_fault_words z.fault)) (same_spec_fault text (fault_at T.NoSuchType place) f is w)
+wrong_specs_text text f place W.NotContractive w is = ap (λ (z : TypePlacedFault). V.NotText z.place (spec_fault_words z.fault)) (same_spec_fault text (fault_at T.NotContractive place) f is w)
+wrong_specs_text text f place W.NegatedFun w is = ap (λ (z : TypePlacedFault). V.NotText z.place (spec_fault_words z.fault)) (same_spec_fault text (fault_at T.NegatedFun place) f is w)
+wrong_specs_text text f place W.EmptyRange w is = ap (λ (z : TypePlacedFault). V.NotText z.place (spec_fault_words z.fault)) (same_spec_fault text (fault_at T.BadRange place) f is w)
 
 -- what is read as a flat module isn't unbuilt
 read_built : (text : List ℕ) (m : Module) → IsLexed text (module_tokens m) → IsFlatModule m → IsNotBuilt text → ⊥
@@ -171,7 +254,7 @@ no_failure text right n function place kind shown read shows =
 accepted_verdict : (text : List ℕ) (right : IsRightText text) (verdict : Verdict) → length text ≤ text_limit → IsTextVerdict text verdict → verdict_status verdict ≡ 0
 accepted_verdict text right (V.Accepted name functions clauses) short is = refl
 accepted_verdict text right (V.Failed name function arity clause place kind shown) short is = absurd (no_failure text right is.0 is.2.number place kind shown is.1 is.2.failed)
-accepted_verdict text right (V.NotText place words) short is = absurd (no_text_none text right.tree place words (right_parsed text right) right.flat.readable.right_names is)
+accepted_verdict text right (V.NotText place words) short is = absurd (no_text_none text right.tree place words (right_parsed text right) right.flat.readable is)
 accepted_verdict text right (V.NotUtf8 at) short is = absurd (no_fault text (module_tokens right.tree) (L.NotUtf8 at) right.lexed is)
 accepted_verdict text right V.TooLong short is = absurd (omega arith)
 accepted_verdict text right V.NotBuilt short is = absurd (read_built text right.tree right.lexed right.flat is)
@@ -181,7 +264,7 @@ accepted_verdict text right V.Usage short is = absurd is
 unbuilt_verdict : (text : List ℕ) (verdict : Verdict) → length text ≤ text_limit → IsNotBuilt text → IsTextVerdict text verdict → verdict ≡ V.NotBuilt
 unbuilt_verdict text (V.Accepted name functions clauses) short unbuilt is = absurd (read_built text is.safe.tree is.lexed is.flat unbuilt)
 unbuilt_verdict text (V.Failed name function arity clause place kind shown) short unbuilt is = absurd (read_built text is.0 is.1.lexed is.1.flat unbuilt)
-unbuilt_verdict text (V.NotText place words) short unbuilt is = absurd (no_text_none text unbuilt.tree place words unbuilt.parsed unbuilt.right_names is)
+unbuilt_verdict text (V.NotText place words) short unbuilt is = absurd (no_text_none text unbuilt.tree place words unbuilt.parsed unbuilt.readable is)
 unbuilt_verdict text (V.NotUtf8 at) short unbuilt is = absurd (no_fault text (module_tokens unbuilt.tree) (L.NotUtf8 at) unbuilt.parsed.lexed is)
 unbuilt_verdict text V.TooLong short unbuilt is = absurd (omega arith)
 unbuilt_verdict text V.NotBuilt short unbuilt is = refl
@@ -194,8 +277,18 @@ wrong_verdict text f (V.Failed name function arity clause place kind shown) shor
 wrong_verdict text f (V.NotText place words) short w is = wrong_text text f place words w is
 wrong_verdict text f (V.NotUtf8 at) short w is = absurd (no_fault text (module_tokens w.tree) (L.NotUtf8 at) w.parsed.lexed is)
 wrong_verdict text f V.TooLong short w is = absurd (omega arith)
-wrong_verdict text f V.NotBuilt short w is = absurd (wrong_right text is.tree f is.parsed is.right_names w)
+wrong_verdict text f V.NotBuilt short w is = absurd (wrong_right text is.tree f is.parsed is.readable.right_names w)
 wrong_verdict text f V.Usage short w is = absurd is
+
+-- the verdict on a module whose names are right and whose types, records or specs are wrong
+wrong_specs_verdict : (text : List ℕ) (f : TypePlacedFault) (verdict : Verdict) → length text ≤ text_limit → HasWrongSpecs text f → IsTextVerdict text verdict → verdict ≡ V.NotText f.place (spec_fault_words f.fault)
+wrong_specs_verdict text f (V.Accepted name functions clauses) short w is = absurd (specs_right text is.safe.tree f (read_parsed text is.safe.tree is.lexed is.flat) is.flat.readable w)
+wrong_specs_verdict text f (V.Failed name function arity clause place kind shown) short w is = absurd (specs_right text is.0 f (read_parsed text is.0 is.1.lexed is.1.flat) is.1.flat.readable w)
+wrong_specs_verdict text f (V.NotText place words) short w is = wrong_specs_text text f place words w is
+wrong_specs_verdict text f (V.NotUtf8 at) short w is = absurd (no_fault text (module_tokens w.tree) (L.NotUtf8 at) w.parsed.lexed is)
+wrong_specs_verdict text f V.TooLong short w is = absurd (omega arith)
+wrong_specs_verdict text f V.NotBuilt short w is = absurd (specs_right text is.tree f is.parsed is.readable w)
+wrong_specs_verdict text f V.Usage short w is = absurd is
 
 -- the verdict on a text without a module
 no_module_verdict : (text : List ℕ) (verdict : Verdict) → HasNoModule text → IsTextVerdict text verdict → verdict_status verdict ≡ 3
@@ -216,6 +309,7 @@ right_is_accepted text (Err R.TooLong) is right short = absurd (omega arith)
 right_is_accepted text (Err (R.Lex fault)) is right short = absurd (no_fault text (module_tokens right.tree) fault right.lexed is)
 right_is_accepted text (Err (R.Parse fault)) is right short = absurd (refusal_none text right.tree fault (right_parsed text right) is)
 right_is_accepted text (Err (R.Scope fault)) is right short = absurd (told_right text right.tree (placed_fault fault) (right_parsed text right) right.flat.readable.right_names is)
+right_is_accepted text (Err (R.Spec fault)) is right short = absurd (told_specs_right text right.tree (placed_spec_fault fault) (right_parsed text right) right.flat.readable is)
 right_is_accepted text (Err R.NotBuilt) is right short = absurd (read_built text right.tree right.lexed right.flat is)
 right_is_accepted text (Err (R.Types F.NoMemory)) is right short = absurd is.2
 right_is_accepted text (Err (R.Types (F.Failed function place kind shown))) is right short = absurd (no_failure text right is.0 function place kind shown is.1 is.2)
@@ -226,7 +320,8 @@ unbuilt_is_refused text (Err R.NoMemory) accepted is unbuilt short = inr refl
 unbuilt_is_refused text (Err R.TooLong) accepted is unbuilt short = absurd (omega arith)
 unbuilt_is_refused text (Err (R.Lex fault)) accepted is unbuilt short = absurd (no_fault text (module_tokens unbuilt.tree) fault unbuilt.parsed.lexed is)
 unbuilt_is_refused text (Err (R.Parse fault)) accepted is unbuilt short = absurd (refusal_none text unbuilt.tree fault unbuilt.parsed is)
-unbuilt_is_refused text (Err (R.Scope fault)) accepted is unbuilt short = absurd (told_right text unbuilt.tree (placed_fault fault) unbuilt.parsed unbuilt.right_names is)
+unbuilt_is_refused text (Err (R.Scope fault)) accepted is unbuilt short = absurd (told_right text unbuilt.tree (placed_fault fault) unbuilt.parsed unbuilt.readable.right_names is)
+unbuilt_is_refused text (Err (R.Spec fault)) accepted is unbuilt short = absurd (told_specs_right text unbuilt.tree (placed_spec_fault fault) unbuilt.parsed unbuilt.readable is)
 unbuilt_is_refused text (Err R.NotBuilt) accepted is unbuilt short = inl refl
 unbuilt_is_refused text (Err (R.Types refusal)) accepted is unbuilt short = absurd (read_built text is.0 is.1.lexed is.1.flat unbuilt)
 
@@ -237,6 +332,7 @@ no_module_is_refused text (Err R.TooLong) accepted is none short = absurd (omega
 no_module_is_refused text (Err (R.Lex fault)) accepted is none short = tt
 no_module_is_refused text (Err (R.Parse fault)) accepted is none short = tt
 no_module_is_refused text (Err (R.Scope fault)) accepted is none short = told_module text (placed_fault fault) none is
+no_module_is_refused text (Err (R.Spec fault)) accepted is none short = told_specs_module text (placed_spec_fault fault) none is
 no_module_is_refused text (Err R.NotBuilt) accepted is none short = none is.tree is.parsed
 no_module_is_refused text (Err (R.Types refusal)) accepted is none short = none is.0 (read_parsed text is.0 is.1.lexed is.1.flat)
 
@@ -247,8 +343,20 @@ wrong_is_refused text f (Err R.TooLong) accepted is w short = absurd (omega arit
 wrong_is_refused text f (Err (R.Lex fault)) accepted is w short = no_fault text (module_tokens w.tree) fault w.parsed.lexed is
 wrong_is_refused text f (Err (R.Parse fault)) accepted is w short = refusal_none text w.tree fault w.parsed is
 wrong_is_refused text f (Err (R.Scope fault)) accepted is w short = told_same text f (placed_fault fault) w is
-wrong_is_refused text f (Err R.NotBuilt) accepted is w short = wrong_right text is.tree f is.parsed is.right_names w
+wrong_is_refused text f (Err (R.Spec fault)) accepted is w short = told_specs_names text f (placed_spec_fault fault) w is
+wrong_is_refused text f (Err R.NotBuilt) accepted is w short = wrong_right text is.tree f is.parsed is.readable.right_names w
 wrong_is_refused text f (Err (R.Types refusal)) accepted is w short = wrong_right text is.0 f (read_parsed text is.0 is.1.lexed is.1.flat) is.1.flat.readable.right_names w
+
+pub wrong_specs_are_refused : (text : List ℕ) (f : TypePlacedFault) (result : Result Accepted Refused) → IfOk result (λ a. IsAcceptedText text a.name a.functions a.clauses) → IfErr result (IsTextRefusal text) → HasWrongSpecs text f → length text ≤ text_limit → IsWrongSpecsAnswer f result
+wrong_specs_are_refused text f (Ok a) accepted is w short = specs_right text accepted.safe.tree f (read_parsed text accepted.safe.tree accepted.lexed accepted.flat) accepted.flat.readable w
+wrong_specs_are_refused text f (Err R.NoMemory) accepted is w short = tt
+wrong_specs_are_refused text f (Err R.TooLong) accepted is w short = absurd (omega arith)
+wrong_specs_are_refused text f (Err (R.Lex fault)) accepted is w short = no_fault text (module_tokens w.tree) fault w.parsed.lexed is
+wrong_specs_are_refused text f (Err (R.Parse fault)) accepted is w short = refusal_none text w.tree fault w.parsed is
+wrong_specs_are_refused text f (Err (R.Scope fault)) accepted is w short = told_names_specs text f (placed_fault fault) w is
+wrong_specs_are_refused text f (Err (R.Spec fault)) accepted is w short = told_specs_same text f (placed_spec_fault fault) w is
+wrong_specs_are_refused text f (Err R.NotBuilt) accepted is w short = specs_right text is.tree f is.parsed is.readable w
+wrong_specs_are_refused text f (Err (R.Types refusal)) accepted is w short = specs_right text is.0 f (read_parsed text is.0 is.1.lexed is.1.flat) is.1.flat.readable w
 
 -- ---- what was judged is what is named
 
@@ -318,6 +426,16 @@ refuses_names status words held before after f wrong small read write usage judg
     few status small read write usage (λ below not_two.
     let j : Judges status words held before after = judges below not_two in
     let is : j.judged.verdict ≡ V.NotText f.place (fault_words f.fault) = wrong_verdict wrong.text f j.judged.verdict wrong.named.short wrong.wrong (judged_text status words held before after wrong.text wrong.named j) in
+    (sym j.judged.status_is ∙ ap (λ (v : Verdict). verdict_status v) is, subst (λ (v : Verdict). Puts before after (report_text v)) is j.judged.written))
+
+-- a module whose names are right and whose types, records or specs are wrong is refused with their first fault
+pub refuses_specs : (status : ℕ) (words : List (List ℕ)) (held : Option Holdings) (before after : Option (List ℕ)) (f : TypePlacedFault) → NamesWrongSpecs words held f → status ≤ 6
+    → (status ≡ 4 → ⊥) → (status ≡ 5 → ⊥) → (status ≡ 2 → ⊥) → (status < 4 → status ≢ 2 → Judges status words held before after)
+    → ((status ≡ 3) × Puts before after (report_text (V.NotText f.place (spec_fault_words f.fault)))) ⊎ (status ≡ 6)
+refuses_specs status words held before after f wrong small read write usage judges =
+    few status small read write usage (λ below not_two.
+    let j : Judges status words held before after = judges below not_two in
+    let is : j.judged.verdict ≡ V.NotText f.place (spec_fault_words f.fault) = wrong_specs_verdict wrong.text f j.judged.verdict wrong.named.short wrong.wrong (judged_text status words held before after wrong.text wrong.named j) in
     (sym j.judged.status_is ∙ ap (λ (v : Verdict). verdict_status v) is, subst (λ (v : Verdict). Puts before after (report_text v)) is j.judged.written))
 
 -- a module that isn't flat isn't built yet

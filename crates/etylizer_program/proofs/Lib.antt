@@ -1,5 +1,3 @@
-pub mod HeldPairs
-pub mod Written
 pub mod FormLists
 pub mod Flat
 pub mod FunctionAt

@@ -4,7 +4,7 @@ use Rattle.std.proofs.lemmas.Bool.{cases_lt}
 use Rattle.std.specs.Option.{ForSome}
 use Rattle.etylizer_program.specs.declared.report.Verdict.{Verdict}
 use Rattle.etylizer_program.specs.declared.report.Verdict.TheVariants as V
-use Rattle.etylizer_program.specs.Outside.{Holdings, Loads}
+use Rattle.tool_io.specs.Outside.{Holdings, Loads}
 use Rattle.etylizer_program.specs.Check.{text_limit, IsTextVerdict, IsRightVerdict}
 use Rattle.etylizer_program.specs.Tool.{IsVerdictUnder, JudgesText, JudgesFile, BeginsTextReport, BeginsFileReport}
 

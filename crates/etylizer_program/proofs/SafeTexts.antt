@@ -1,13 +1,13 @@
 -- Small texts that are safe and that are not.
-use Rattle.std.proofs.Common.{◌≡◌, refl}
+use Rattle.std.proofs.Common.{◌≡◌}
 use Rattle.std.specs.Prelude.{codes}
-use Rattle.type_terms.specs.Definitions.{given_definitions}
 use Rattle.erl_tree.specs.SmallText.{small_text, small_module}
 use Rattle.erl_tree.specs.declared.form.Module.{Module}
 use Rattle.erl_tree.proofs.TextExamples.{dollar_spells_nothing}
 use Rattle.erl_grammar.specs.FormSpelling.{module_tokens}
 use Rattle.erl_grammar.specs.Texts.{SpellsModule}
-use Rattle.erl_runs.specs.Specs.{specs_of}
+use Rattle.flat_modules.proofs.SmallExamples.{no-functions}
+use Rattle.type_rules.specs.declared.specs.Specs.{Specs}
 use Rattle.readable_modules.specs.Readable.{IsReadable}
 use Rattle.erl_runs.specs.Safety.{IsSafe}
 use Rattle.readable_modules.specs.SafeTexts.{IsSafeText}
@@ -18,14 +18,13 @@ only_small : (other : Module) → SpellsModule small_text other → other ≡ sm
 only_small other s = one_module small_text other small_module s small_module_spelled
 
 small_readable : IsReadable small_module
-unfolding specs_of
-small_readable = record { right_names = refl; specs_read = refl; specs_distinct = tt }
+small_readable = no-functions.readable
 
-small_is_safe : IsSafe small_module (specs_of small_module) given_definitions
-small_is_safe outside f arrow i args steps among = absurd among
+small_is_safe : (s : Specs) → IsSafe small_module s.functions s.defs
+small_is_safe s outside f arrow i args steps among = absurd among
 
 pub safe_text : IsSafeText small_text
-safe_text = record { tree = small_module; spelled = small_module_spelled; only = only_small; readable = small_readable; safe = small_is_safe }
+safe_text = record { tree = small_module; spelled = small_module_spelled; only = only_small; readable = small_readable; safe = small_is_safe small_readable.specs }
 
 pub dollar_not_safe : IsSafeText (codes "$") → ⊥
 dollar_not_safe s = dollar_spells_nothing (module_tokens s.tree) s.spelled.tokens

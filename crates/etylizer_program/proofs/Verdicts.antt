@@ -1,12 +1,13 @@
 -- From what is said of a module to what is said of its text.
-use Rattle.std.proofs.Common.{◌≡◌, ◌∙◌, ◌<◌, ℕ, List, length, Result, Ok, Err, IfOk, IsErrOf, true, refl, subst, sym}
-use Rattle.type_terms.specs.Definitions.{given_definitions}
+use Rattle.std.proofs.Common.{◌≡◌, ◌∙◌, ◌<◌, ℕ, List, length, Option, Some, Result, Ok, Err, IfOk, IsErrOf, true, refl, subst, sym}
 use Rattle.type_terms.specs.declared.list.NoMemory.{NoMemory}
 use Rattle.erl_tree.specs.declared.form.Module.{Module}
 use Rattle.erl_tree.specs.declared.token.Place.{Place}
 use Rattle.type_terms.specs.declared.spec.Kind.{Kind}
 use Rattle.erl_tree.specs.Functions.{functions_in, functions_of}
-use Rattle.erl_runs.specs.Specs.{specs_of, specs_in}
+use Rattle.erl_runs.specs.Specs.{specs_in}
+use Rattle.type_rules.specs.declared.specs.Specs.{Specs}
+use Rattle.type_rules.specs.SpecTerms.{module_specs}
 use Rattle.erl_tree.specs.declared.token.Placed.{Placed}
 use Rattle.erl_tree.specs.Lexis.{SpellsTokens}
 use Rattle.erl_tree.specs.Limits.{IsInLimit}
@@ -37,13 +38,21 @@ use Rattle.etylizer_program.specs.Check.{text_limit, IsReadAs, IsParsedAs, IsAcc
 use Rattle.etylizer_program.proofs.Flat.{clauses_counted_by_specs}
 
 -- the summary, counted by forms
-pub accepted_module : (m : Module) (name : List ℕ) (functions clauses : ℕ) → IsFlatModule m → MeetsConstraints m → IsSafe m (specs_of m) given_definitions
+pub accepted_module : (m : Module) (name : List ℕ) (functions clauses : ℕ) → IsFlatModule m → MeetsConstraints m → ((s : Specs) → module_specs m ≡ Some s → IsSafe m s.functions s.defs)
     → name ≡ m.name → functions ≡ length (functions_in m.forms) → clauses ≡ length (specs_in m.forms) → IsAcceptedModule m name functions clauses
 accepted_module m name functions clauses flat meets safe named functions_are clauses_are =
     record { meets = meets; safe = safe; summary = record { named = named; functions_counted = functions_are; clauses_counted = clauses_are ∙ sym (clauses_counted_by_specs m (flat-formed m flat)) } }
 
-abbrev safe_text : (text : List ℕ) (m : Module) → IsReadAs text m → IsSafe m (specs_of m) given_definitions → IsSafeText text
-safe_text text m read safe = record { tree = m; spelled = read.spelled; only = read.only; readable = read.flat.readable; safe = safe }
+-- what holds of the one list of specs of a module holds of each
+pub of_specs : (m : Module) (s : Specs) (P : Specs → Type 0) → module_specs m ≡ Some s → P s → (t : Specs) → module_specs m ≡ Some t → P t
+of_specs m s P is p t e = subst P (one s t (sym is ∙ e)) p
+  where
+    one : (s t : Specs) → Some s ≡ Some t → s ≡ t
+    one s t h = cc
+
+abbrev safe_text : (text : List ℕ) (m : Module) → IsReadAs text m → ((s : Specs) → module_specs m ≡ Some s → IsSafe m s.functions s.defs) → IsSafeText text
+safe_text text m read safe =
+    record { tree = m; spelled = read.spelled; only = read.only; readable = read.flat.readable; safe = safe read.flat.readable.specs read.flat.readable.has_specs.terms.terms }
 
 -- a text whose module is accepted
 pub text_accepted : (text : List ℕ) (m : Module) (name : List ℕ) (functions clauses : ℕ) → IsReadAs text m → IsAcceptedModule m name functions clauses → IsAcceptedText text name functions clauses

@@ -1,7 +1,6 @@
 -- What the program says of a module's text.
 use Rattle.std.specs.Prelude.{◌≡◌, ◌≢◌, ◌⊎◌, ◌<◌, ◌+◌, ◌↔◌, ℕ, List, [], ◌∷◌, length, slice_get, Option, Some, None, Result, Ok, Err}
 use Rattle.std.specs.Option.{option_map}
-use Rattle.type_terms.specs.Definitions.{given_definitions}
 use Rattle.type_terms.specs.declared.spec.Kind.{Kind}
 use Rattle.erl_tree.specs.declared.token.Place.{Place}
 use Rattle.erl_tree.specs.declared.token.Node.{Node}
@@ -9,7 +8,7 @@ use Rattle.erl_tree.specs.declared.form.Function.{Function}
 use Rattle.erl_tree.specs.declared.form.SpecKind.{SpecKind}
 use Rattle.erl_tree.specs.declared.form.Module.{Module}
 use Rattle.erl_tree.specs.Functions.{functions_of, clauses_arity}
-use Rattle.erl_runs.specs.Specs.{specs_of, specs_in}
+use Rattle.erl_runs.specs.Specs.{specs_in}
 use Rattle.erl_tree.specs.declared.token.Placed.{Placed}
 use Rattle.erl_grammar.specs.FormSpelling.{module_tokens}
 use Rattle.erl_grammar.specs.FormGrammar.{IsModule}
@@ -28,6 +27,16 @@ use Rattle.scope_rules.specs.declared.fault.NameFault.{NameFault}
 use Rattle.scope_rules.specs.declared.fault.NameFault.TheVariants as N
 use Rattle.scope_rules.specs.declared.fault.PlacedFault.{PlacedFault}
 use Rattle.scope_rules.specs.ScopeFaults.{HasRightNames, IsFirstFault as IsFirstNameFault}
+use Rattle.type_rules.specs.declared.fault.TypeFault.{TypeFault}
+use Rattle.type_rules.specs.declared.fault.TypeFault.TheVariants as T
+use Rattle.type_rules.specs.declared.fault.Outside.{Outside}
+use Rattle.type_rules.specs.declared.fault.PlacedFault.{PlacedFault as TypePlacedFault}
+use Rattle.type_rules.specs.declared.specs.Specs.{Specs}
+use Rattle.type_rules.specs.SpecTerms.{module_specs}
+use Rattle.type_rules.specs.TypeFaults.{IsFirstFault as IsFirstSpecFault, fault_at, outside_words}
+use Rattle.typespecs.specs.declared.fault.SpecFault.{SpecFault}
+use Rattle.typespecs.specs.FaultPlaces.{placed_fault as placed_spec_fault}
+use Rattle.readable_modules.specs.Readable.{IsReadable}
 use Rattle.erl_scope.specs.declared.fault.ScopeFault.{ScopeFault}
 use Rattle.erl_scope.specs.FaultPlaces.{placed_fault}
 use Rattle.flat_modules.specs.FlatModules.{IsFlatModule}
@@ -40,7 +49,7 @@ use Rattle.cert_checker.specs.Constraints.{Test, FindsFits, Holds, owed_of}
 use Rattle.cert_checker.specs.Failures.{MeetsConstraints, ShowsFirstFailure}
 use Rattle.etylizer_program.specs.declared.check.Accepted.{Accepted as AcceptedText}
 use Rattle.etylizer_program.specs.declared.check.Refused.{Refused}
-use Rattle.etylizer_program.specs.declared.check.Refused.TheVariants.{NoMemory as NoMemoryForText, TooLong as TooLongText, Lex as LexText, Parse as ParseText, Scope as ScopeText, NotBuilt as NotBuiltText, Types}
+use Rattle.etylizer_program.specs.declared.check.Refused.TheVariants.{NoMemory as NoMemoryForText, TooLong as TooLongText, Lex as LexText, Parse as ParseText, Scope as ScopeText, Spec as SpecText, NotBuilt as NotBuiltText, Types}
 use Rattle.etylizer_program.specs.declared.report.Verdict.{Verdict}
 use Rattle.etylizer_program.specs.declared.report.Verdict.TheVariants.{Accepted, Failed, NotText, NotUtf8, TooLong, NotBuilt, Usage}
 use Rattle.etylizer_program.specs.declared.report.Words.{Words}
@@ -56,6 +65,11 @@ pub record IsReadAs (text : List ℕ) (m : Module) : Type 0 where
   pub spelled : SpellsModule text m
   pub only : (other : Module) → SpellsModule text other → other ≡ m
   pub flat : IsFlatModule m
+
+-- the same, and these are its specs
+pub record IsReadWith (text : List ℕ) (m : Module) (s : Specs) : Type 0 where
+  pub read : IsReadAs text m
+  pub specs : module_specs m ≡ Some s
 
 -- ---- texts without a flat module
 
@@ -113,11 +127,27 @@ HasToldFault text (Some fault) = HasWrongNames text fault
 abbrev pub IsScopeRefusal : List ℕ → ScopeFault → Type 0
 IsScopeRefusal text fault = HasToldFault text (placed_fault fault)
 
--- there is such a module, nothing is wrong with its names, and it isn't flat
-pub record IsNotBuilt (text : List ℕ) : Type 0 where
+-- there is such a module, nothing is wrong with its names, and this is the first fault of its types, records and specs
+pub record HasWrongSpecs (text : List ℕ) (fault : TypePlacedFault) : Type 0 where
   pub tree : Module
   pub parsed : IsParsedAs text tree
   pub right_names : HasRightNames tree
+  pub first : IsFirstSpecFault tree fault
+
+-- the first fault of the types, records and specs, if one is told
+abbrev pub HasToldSpecFault : List ℕ → Option TypePlacedFault → Type 0
+HasToldSpecFault text None = ⊥
+HasToldSpecFault text (Some fault) = HasWrongSpecs text fault
+
+-- why the types, records and specs of a text's module are refused
+abbrev pub IsSpecRefusal : List ℕ → SpecFault → Type 0
+IsSpecRefusal text fault = HasToldSpecFault text (placed_spec_fault fault)
+
+-- there is such a module, it is readable, and it isn't flat
+pub record IsNotBuilt (text : List ℕ) : Type 0 where
+  pub tree : Module
+  pub parsed : IsParsedAs text tree
+  pub readable : IsReadable tree
   pub not_flat : IsFlatModule tree → ⊥
 
 -- the bytes are lexed as the tokens of a flat module all of whose constraints hold, with some test of arguments that finds what fits
@@ -150,10 +180,10 @@ pub record IsSummary (m : Module) (name : List ℕ) (functions clauses : ℕ) : 
   pub functions_counted : functions ≡ function_count m
   pub clauses_counted : clauses ≡ spec_clause_count m
 
--- the module's constraints hold, it is safe, and this is its summary
+-- the module's constraints hold, it is safe by its specs, and this is its summary
 pub record IsAcceptedModule (m : Module) (name : List ℕ) (functions clauses : ℕ) : Type 0 where
   pub meets : MeetsConstraints m
-  pub safe : IsSafe m (specs_of m) given_definitions
+  pub safe : (s : Specs) → module_specs m ≡ Some s → IsSafe m s.functions s.defs
   pub summary : IsSummary m name functions clauses
 
 -- the text is a safe text and lexed as its module's tokens, the module is flat and its constraints hold, and this is the module's summary
@@ -196,6 +226,7 @@ IsTextRefusal text NotBuiltText = IsNotBuilt text
 IsTextRefusal text (LexText fault) = IsFirstFault text fault
 IsTextRefusal text (ParseText fault) = IsParseRefusal text fault
 IsTextRefusal text (ScopeText fault) = IsScopeRefusal text fault
+IsTextRefusal text (SpecText fault) = IsSpecRefusal text fault
 IsTextRefusal text (Types refusal) = (m : Module) × IsReadAs text m × IsFailure m refusal
 
 -- a text without a module is refused by the lexer or the parser, unless memory runs out
@@ -212,6 +243,13 @@ IsWrongNamesAnswer fault (Ok a) = ⊥
 IsWrongNamesAnswer fault (Err NoMemoryForText) = Unit {0}
 IsWrongNamesAnswer fault (Err (ScopeText answer)) = placed_fault answer ≡ Some fault
 IsWrongNamesAnswer fault (Err _) = ⊥
+
+-- a text whose module has right names and wrong types, records or specs is refused with their first fault, unless memory runs out
+abbrev pub IsWrongSpecsAnswer : TypePlacedFault → Result AcceptedText Refused → Type 0
+IsWrongSpecsAnswer fault (Ok a) = ⊥
+IsWrongSpecsAnswer fault (Err NoMemoryForText) = Unit {0}
+IsWrongSpecsAnswer fault (Err (SpecText answer)) = placed_spec_fault answer ≡ Some fault
+IsWrongSpecsAnswer fault (Err _) = ⊥
 
 -- a function's name and arity
 abbrev pub name_and_arity : Function → List ℕ × ℕ
@@ -243,12 +281,26 @@ fault_words N.ArityDiffers = W.ArityDiffers
 abbrev pub placed : NameFault → Place → PlacedFault
 placed fault place = record { place = place; fault = fault }
 
--- why a text within the limit has no module with right names, by the words of its refusal and the place
+-- the words for a fault of types, records and specs
+abbrev pub spec_fault_words : TypeFault → Words
+spec_fault_words T.NoSuchType = W.NoSuchType
+spec_fault_words T.Repeated = W.Repeated
+spec_fault_words T.NotContractive = W.NotContractive
+spec_fault_words T.NegatedFun = W.NegatedFun
+spec_fault_words (T.OutOfProfile what) = W.OutOfProfile (outside_words what)
+spec_fault_words T.ArityDiffers = W.ArityDiffers
+spec_fault_words T.BadRange = W.EmptyRange
+
+-- what stands at the place in a type, a record or a spec is out of the profile, in these words
+abbrev pub HasOutsideSpec : List ℕ → Place → List ℕ → Type 0
+HasOutsideSpec text place form = (what : Outside) × (form ≡ outside_words what) × HasWrongSpecs text (fault_at (T.OutOfProfile what) place)
+
+-- why a text within the limit has no readable module, by the words of its refusal and the place
 abbrev pub IsNoText : List ℕ → Place → Words → Type 0
 IsNoText text place W.BadToken = IsFirstFault text (L.BadToken place)
 IsNoText text place W.BadEscape = IsFirstFault text (L.BadEscape place)
 IsNoText text place W.NumberTooWide = IsFirstFault text (L.WideNumber place)
-IsNoText text place (W.OutOfProfile form) = IsFirstFault text (L.OutOfProfile place form) ⊎ IsOutOfProfile text place form
+IsNoText text place (W.OutOfProfile form) = IsFirstFault text (L.OutOfProfile place form) ⊎ (IsOutOfProfile text place form ⊎ HasOutsideSpec text place form)
 IsNoText text place W.Unexpected = IsUnexpected text
 IsNoText text place W.TooDeep = IsTooDeep text place
 IsNoText text place W.UnboundVariable = HasWrongNames text (placed N.Unbound place)
@@ -258,8 +310,12 @@ IsNoText text place W.TwoFunctions = HasWrongNames text (placed N.TwoFunctions p
 IsNoText text place W.NoSpec = HasWrongNames text (placed N.NoSpec place)
 IsNoText text place W.NoSuchRecord = HasWrongNames text (placed N.NoSuchRecord place)
 IsNoText text place W.NoSuchField = HasWrongNames text (placed N.NoSuchField place)
-IsNoText text place W.Repeated = HasWrongNames text (placed N.Repeated place)
-IsNoText text place W.ArityDiffers = HasWrongNames text (placed N.ArityDiffers place)
+IsNoText text place W.Repeated = HasWrongNames text (placed N.Repeated place) ⊎ HasWrongSpecs text (fault_at T.Repeated place)
+IsNoText text place W.ArityDiffers = HasWrongNames text (placed N.ArityDiffers place) ⊎ HasWrongSpecs text (fault_at T.ArityDiffers place)
+IsNoText text place W.NoSuchType = HasWrongSpecs text (fault_at T.NoSuchType place)
+IsNoText text place W.NotContractive = HasWrongSpecs text (fault_at T.NotContractive place)
+IsNoText text place W.NegatedFun = HasWrongSpecs text (fault_at T.NegatedFun place)
+IsNoText text place W.EmptyRange = HasWrongSpecs text (fault_at T.BadRange place)
 
 -- what a verdict says of a module that was read
 abbrev pub IsModuleVerdict : Module → Verdict → Type 0

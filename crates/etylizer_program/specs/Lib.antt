@@ -1,5 +1,3 @@
-pub mod Outside
-pub mod Memory
 pub mod Commands
 pub mod Report
 pub mod Check

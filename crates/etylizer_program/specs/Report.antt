@@ -13,7 +13,7 @@ use Rattle.cert_checker.specs.declared.refusal.Shown.TheVariants.{One, Missing}
 use Rattle.etylizer_program.specs.declared.report.Verdict.{Verdict}
 use Rattle.etylizer_program.specs.declared.report.Verdict.TheVariants.{Accepted, Failed, NotText, NotUtf8, TooLong, NotBuilt, Usage}
 use Rattle.etylizer_program.specs.declared.report.Words.{Words}
-use Rattle.etylizer_program.specs.declared.report.Words.TheVariants.{BadToken, BadEscape, NumberTooWide, OutOfProfile, Unexpected, TooDeep, UnboundVariable, UnsafeVariable, NoSuchFunction, TwoFunctions, NoSpec, NoSuchRecord, NoSuchField, Repeated, ArityDiffers}
+use Rattle.etylizer_program.specs.declared.report.Words.TheVariants.{BadToken, BadEscape, NumberTooWide, OutOfProfile, Unexpected, TooDeep, UnboundVariable, UnsafeVariable, NoSuchFunction, TwoFunctions, NoSpec, NoSuchRecord, NoSuchField, Repeated, ArityDiffers, NoSuchType, NotContractive, NegatedFun, EmptyRange}
 
 -- whether a small letter comes first
 abbrev pub begins_lower : List ℕ → Bool
@@ -83,6 +83,10 @@ words_text NoSuchRecord = codes "no such record"
 words_text NoSuchField = codes "no such field"
 words_text Repeated = codes "repeated"
 words_text ArityDiffers = codes "arity differs"
+words_text NoSuchType = codes "no such type"
+words_text NotContractive = codes "not contractive"
+words_text NegatedFun = codes "negated fun type"
+words_text EmptyRange = codes "empty range"
 
 -- line:column
 abbrev pub place_text : Place → List ℕ

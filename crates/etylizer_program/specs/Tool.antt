@@ -3,14 +3,15 @@ use Rattle.std.specs.Prelude.{◌≡◌, ◌≢◌, ◌⊎◌, ◌≤◌, ℕ, L
 use Rattle.std.specs.Option.{ForSome}
 use Rattle.flat_modules.specs.FlatModules.{IsFlatModule}
 use Rattle.scope_rules.specs.declared.fault.PlacedFault.{PlacedFault}
+use Rattle.type_rules.specs.declared.fault.PlacedFault.{PlacedFault as TypePlacedFault}
 use Rattle.readable_modules.specs.SafeTexts.{IsSafeText}
 use Rattle.cert_checker.specs.Failures.{MeetsConstraints}
 use Rattle.etylizer_program.specs.declared.report.Verdict.{Verdict}
 use Rattle.etylizer_program.specs.declared.report.Verdict.TheVariants.{Accepted, Failed, NotText, NotUtf8, TooLong, NotBuilt, Usage}
-use Rattle.etylizer_program.specs.Outside.{Holdings, IsHeld, Puts, PutsBeginning}
+use Rattle.tool_io.specs.Outside.{Holdings, IsHeld, Puts, PutsBeginning}
 use Rattle.etylizer_program.specs.Commands.{command_of}
 use Rattle.etylizer_program.specs.Report.{report_text}
-use Rattle.etylizer_program.specs.Check.{text_limit, function_count, spec_clause_count, HasNoModule, HasWrongNames, IsNotBuilt, IsRightText, IsRightVerdict}
+use Rattle.etylizer_program.specs.Check.{text_limit, function_count, spec_clause_count, HasNoModule, HasWrongNames, HasWrongSpecs, IsNotBuilt, IsRightText, IsRightVerdict}
 
 -- the words are `check FILE`
 abbrev pub IsCheckOf : List (List ℕ) → (file : List ℕ) → Type 0
@@ -128,7 +129,13 @@ pub record NamesWrongNames (words : List (List ℕ)) (held : Option Holdings) (f
   pub named : NamesText words held text
   pub wrong : HasWrongNames text fault
 
--- the words name a text that is lexed as the tokens of such a module, whose names are right and which isn't flat
+-- the words name a text that is lexed as the tokens of such a module, whose names are right, and this is the first fault of its types, records and specs
+pub record NamesWrongSpecs (words : List (List ℕ)) (held : Option Holdings) (fault : TypePlacedFault) : Type 0 where
+  pub text : List ℕ
+  pub named : NamesText words held text
+  pub wrong : HasWrongSpecs text fault
+
+-- the words name a text that is lexed as the tokens of such a module, which is readable and isn't flat
 pub record NamesNotBuilt (words : List (List ℕ)) (held : Option Holdings) : Type 0 where
   pub text : List ℕ
   pub named : NamesText words held text

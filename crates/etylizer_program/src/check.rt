@@ -1,15 +1,18 @@
-ghost use Rattle.std.specs.Prelude.{◌≡◌, ◌⊎◌, ◌<◌, ◌≤◌, ◌↔◌, length, IfOk, IfErr, IsOk, IsErrOf, IsTrue};
+ghost use Rattle.std.specs.Prelude.{◌≡◌, ◌⊎◌, ◌<◌, ◌≤◌, ◌↔◌, Some, length, IfOk, IfErr, IsOk, IsErrOf, IsTrue};
 ghost use Rattle.erl_tree.specs.Profile.{IsLexed};
 ghost use Rattle.erl_grammar.specs.FormGrammar.{IsModule};
 ghost use Rattle.erl_grammar.specs.FormNesting.{IsModuleWithin};
 ghost use Rattle.erl_grammar.specs.Nesting.{nesting_limit};
 ghost use Rattle.erl_grammar.specs.Texts.{HasIntegersInLimit};
 ghost use Rattle.scope_rules.specs.ScopeFaults.{HasRightNames};
+ghost use Rattle.type_rules.specs.SpecTerms.{module_specs};
+ghost use Rattle.type_rules.specs.TypeFaults.{HasSpecs};
+ghost use Rattle.type_rules.specs.declared.fault.PlacedFault.{PlacedFault as TypePlacedFault};
 ghost use Rattle.scope_rules.specs.declared.fault.PlacedFault.{PlacedFault};
 ghost use Rattle.flat_modules.specs.FlatModules.{IsFlatModule};
 ghost use Rattle.cert_checker.specs.declared.refusal.FirstRefusal.{FirstRefusal as Failure};
 ghost use Rattle.cert_checker.specs.Failures.{ShowsFirstFailure};
-ghost use Rattle.etylizer_program.specs.Check.{text_limit, HasNoModule, HasWrongNames, IsNotBuilt, IsRightText, IsReadAs, IsParsedAs, IsNoModuleAnswer, IsWrongNamesAnswer, refused_by_parser, IsAcceptedModule, IsAcceptedText, IsTextRefusal, refused_as};
+ghost use Rattle.etylizer_program.specs.Check.{text_limit, HasNoModule, HasWrongNames, HasWrongSpecs, IsNotBuilt, IsRightText, IsReadWith, IsParsedAs, IsNoModuleAnswer, IsWrongNamesAnswer, IsWrongSpecsAnswer, refused_by_parser, IsAcceptedModule, IsAcceptedText, IsTextRefusal, refused_as};
 
 use crate::count::{count_functions, count_specs};
 use cert_checker::{FirstRefusal, check_first};
@@ -19,7 +22,9 @@ use erl_scope::{ScopeFault, resolve};
 use erl_tree::{Module, Placed};
 use flat_tests::is_flat_module;
 use std::alloc::Global;
+use type_rules::Specs;
 use type_terms::{List, NoMemory, Plain, Text};
+use typespecs::{SpecFault, read_specs};
 
 /// The greatest number of bytes of a module's text.
 pub const TEXT_LIMIT: u64 = 1048576;
@@ -44,10 +49,19 @@ pub enum Refused {
     Parse(ParseFault),
     /// The names of its module are used wrongly.
     Scope(ScopeFault),
+    /// Something is wrong with the types, records or specs of its module.
+    Spec(SpecFault),
     /// Its module isn't flat.
     NotBuilt,
     /// A constraint of its module fails.
     Types(FirstRefusal),
+}
+
+/// The flat module that a text spells, and its specs.
+#[derive(Drop)]
+pub struct ReadText {
+    pub tree: Module,
+    pub specs: Specs,
 }
 
 impl From<FirstRefusal> for Refused {
@@ -68,10 +82,11 @@ impl From<FirstRefusal> for Refused {
 /// `TooLong` exactly where the text has more than `TEXT_LIMIT` bytes, whatever they are. Of a text
 /// within that limit: `Lex` where it has no tokens, with the first fault of the lexer; `Parse` where
 /// its tokens are those of no module of the profile, or of one that is nested too deep; `Scope` where
-/// it spells a module whose names are used wrongly, with their first fault (`docs/NAMES.md`);
-/// `NotBuilt` where it spells a module with right names that isn't flat (`docs/LANGUAGE.md`); `Types`
-/// where it spells a flat module, with the first constraint that fails. `NoMemory` where memory runs
-/// out.
+/// it spells a module whose names are used wrongly, with their first fault (`docs/NAMES.md`); `Spec`
+/// where its names are right and something is wrong with its types, records or specs, with the first
+/// fault of these (`docs/SPECS.md`); `NotBuilt` where nothing is wrong with them and the module isn't
+/// flat (`docs/LANGUAGE.md`); `Types` where it spells a flat module, with the first constraint that
+/// fails. `NoMemory` where memory runs out.
 pub fn check_text(alloc: Global, text: &[u8]) -> Result<Accepted, Refused>
     ensures safe { IfOk result (λ a. IsAcceptedText text.now a.name a.functions a.clauses) }
     ensures refused { IfErr result (IsTextRefusal text.now) }
@@ -80,6 +95,7 @@ pub fn check_text(alloc: Global, text: &[u8]) -> Result<Accepted, Refused>
     ensures not_built { IsNotBuilt text.now → length text.now ≤ text_limit → IsErrOf result Refused.NotBuilt ⊎ IsErrOf result Refused.NoMemory }
     ensures no_module { HasNoModule text.now → length text.now ≤ text_limit → IsNoModuleAnswer result }
     ensures wrong_names { (fault : PlacedFault) → HasWrongNames text.now fault → length text.now ≤ text_limit → IsWrongNamesAnswer fault result }
+    ensures wrong_specs { (fault : TypePlacedFault) → HasWrongSpecs text.now fault → length text.now ≤ text_limit → IsWrongSpecsAnswer fault result }
 {
     read_and_check(alloc, text)
 }
@@ -90,17 +106,17 @@ fn read_and_check(alloc: Global, text: &[u8]) -> Result<Accepted, Refused>
     ensures refused { IfErr result (IsTextRefusal text.now) }
     ensures too_long { IsErrOf result Refused.TooLong ↔ (text_limit < length text.now) }
 {
-    let tree = read_text(alloc, text)?;
-    Ok(check_module(alloc, &tree)?)
+    let read = read_text(alloc, text)?;
+    Ok(check_module(alloc, &read.tree, &read.specs)?)
 }
 
-/// The flat module that a text spells.
+/// The flat module that a text spells, and its specs.
 ///
 /// # Errors
 ///
 /// Those of `check_text` without `Types`.
-pub fn read_text(alloc: Global, text: &[u8]) -> Result<Module, Refused>
-    ensures read { IfOk result (IsReadAs text.now) }
+pub fn read_text(alloc: Global, text: &[u8]) -> Result<ReadText, Refused>
+    ensures read { IfOk result (λ r. IsReadWith text.now r.tree r.specs) }
     ensures refused { IfErr result (IsTextRefusal text.now) }
     ensures too_long { IsErrOf result Refused.TooLong ↔ (text_limit < length text.now) }
     ensures types { (refusal : Failure) → IsErrOf result (Refused.Types refusal) → ⊥ }
@@ -116,9 +132,9 @@ pub fn read_text(alloc: Global, text: &[u8]) -> Result<Module, Refused>
 }
 
 /// The flat module whose tokens a text was lexed as.
-fn read_tokens(alloc: Global, text: &[u8], tokens: &List<Placed>) -> Result<Module, Refused>
+fn read_tokens(alloc: Global, text: &[u8], tokens: &List<Placed>) -> Result<ReadText, Refused>
     requires lexed { IsLexed text.now tokens.now }
-    ensures read { IfOk result (IsReadAs text.now) }
+    ensures read { IfOk result (λ r. IsReadWith text.now r.tree r.specs) }
     ensures refused { IfErr result (IsTextRefusal text.now) }
     ensures short { IsErrOf result Refused.TooLong → ⊥ }
     ensures types { (refusal : Failure) → IsErrOf result (Refused.Types refusal) → ⊥ }
@@ -139,10 +155,10 @@ fn refused_by(fault: ParseFault) -> Refused
     }
 }
 
-/// The module as which a text was parsed, where its names are right and it is flat.
-fn read_module(alloc: Global, text: &[u8], tree: Module) -> Result<Module, Refused>
+/// The module as which a text was parsed, where its names and its specs are right and it is flat.
+fn read_module(alloc: Global, text: &[u8], tree: Module) -> Result<ReadText, Refused>
     requires { IsParsedAs text.now tree }
-    ensures read { IfOk result (IsReadAs text.now) }
+    ensures read { IfOk result (λ r. IsReadWith text.now r.tree r.specs) }
     ensures refused { IfErr result (IsTextRefusal text.now) }
     ensures short { IsErrOf result Refused.TooLong → ⊥ }
     ensures types { (refusal : Failure) → IsErrOf result (Refused.Types refusal) → ⊥ }
@@ -154,33 +170,56 @@ fn read_module(alloc: Global, text: &[u8], tree: Module) -> Result<Module, Refus
     }
 }
 
-/// The module as which a text was parsed, whose names are right, where it is flat.
-fn read_resolved(alloc: Global, text: &[u8], tree: Module) -> Result<Module, Refused>
+/// The module as which a text was parsed, whose names are right, where its specs are right and it is flat.
+fn read_resolved(alloc: Global, text: &[u8], tree: Module) -> Result<ReadText, Refused>
     requires parsed { IsParsedAs text.now tree }
     requires right_names { HasRightNames tree }
-    ensures read { IfOk result (IsReadAs text.now) }
+    ensures read { IfOk result (λ r. IsReadWith text.now r.tree r.specs) }
+    ensures refused { IfErr result (IsTextRefusal text.now) }
+    ensures short { IsErrOf result Refused.TooLong → ⊥ }
+    ensures types { (refusal : Failure) → IsErrOf result (Refused.Types refusal) → ⊥ }
+{
+    match read_specs(alloc, &tree) {
+        Ok(specs) => read_specified(alloc, text, tree, specs),
+        Err(SpecFault::NoMemory) => Err(Refused::NoMemory),
+        Err(fault) => Err(Refused::Spec(fault)),
+    }
+}
+
+/// The module as which a text was parsed, whose names are right and whose specs these are, where it is flat.
+fn read_specified(
+    alloc: Global,
+    text: &[u8],
+    tree: Module,
+    specs: Specs,
+) -> Result<ReadText, Refused>
+    requires parsed { IsParsedAs text.now tree }
+    requires right_names { HasRightNames tree }
+    requires specs { HasSpecs tree specs }
+    ensures read { IfOk result (λ r. IsReadWith text.now r.tree r.specs) }
     ensures refused { IfErr result (IsTextRefusal text.now) }
     ensures short { IsErrOf result Refused.TooLong → ⊥ }
     ensures types { (refusal : Failure) → IsErrOf result (Refused.Types refusal) → ⊥ }
 {
     match is_flat_module(alloc, &tree) {
-        Ok(true) => Ok(tree),
+        Ok(true) => Ok(ReadText { tree, specs }),
         Ok(false) => Err(Refused::NotBuilt),
         Err(NoMemory) => Err(Refused::NoMemory),
     }
 }
 
-/// Checks a flat module.
+/// Checks a flat module, whose specs these are.
 ///
 /// # Errors
 ///
 /// `Failed` with the first constraint that fails, and `NoMemory` where memory runs out.
-pub fn check_module(alloc: Global, tree: &Module) -> Result<Accepted, FirstRefusal>
-    requires { IsFlatModule tree.now }
+pub fn check_module(alloc: Global, tree: &Module, specs: &Specs) -> Result<Accepted, FirstRefusal>
+    requires flat { IsFlatModule tree.now }
+    requires specs { module_specs tree.now ≡ Some specs.now }
     ensures accepted { IfOk result (λ a. IsAcceptedModule tree.now a.name a.functions a.clauses) }
     ensures refused { IfErr result (ShowsFirstFailure tree.now) }
 {
-    check_first(alloc, tree)?;
+    check_first(alloc, tree, specs)?;
     let name = tree.name.copy(alloc)?;
     let forms = tree.forms.as_slice();
     Ok(Accepted {

@@ -1,8 +1,10 @@
-ghost use Rattle.std.specs.Prelude.{◌≡◌, ◌<◌, ◌≤◌, ℕ, List as Listed, length, IfOk};
+ghost use Rattle.std.specs.Prelude.{◌≡◌, ◌<◌, ◌≤◌, ℕ, List as Listed, Some, length, IfOk};
 ghost use Rattle.erl_tree.specs.Functions.{functions_of};
+ghost use Rattle.type_rules.specs.SpecTerms.{module_specs};
+ghost use Rattle.type_rules.specs.TypeFaults as type_faults;
 ghost use Rattle.flat_modules.specs.FlatModules.{IsFlatModule};
 ghost use Rattle.cert_checker.specs.Failures.{ShowsFirstFailure};
-ghost use Rattle.etylizer_program.specs.Check.{text_limit, IsFirstFault, IsParseRefusal, IsScopeRefusal, IsModuleVerdict, IsRightVerdict};
+ghost use Rattle.etylizer_program.specs.Check.{text_limit, IsFirstFault, IsParseRefusal, IsScopeRefusal, IsSpecRefusal, IsModuleVerdict, IsRightVerdict};
 
 use crate::check::{Refused, check_module, read_text};
 use crate::count::function_at;
@@ -13,19 +15,22 @@ use erl_parser::ParseFault;
 use erl_scope::ScopeFault;
 use erl_tree::{Module, Place};
 use std::alloc::Global;
-use type_terms::{Kind, NoMemory, Plain};
+use type_rules::{Outside, Specs};
+use type_terms::{Kind, NoMemory, Plain, Text};
+use typespecs::SpecFault;
 
 /// What is to be said of a module's text.
 pub fn judge(alloc: Global, text: &[u8]) -> Result<Verdict, NoMemory>
     ensures { IfOk result (IsRightVerdict text.now) }
 {
     match read_text(alloc, text) {
-        Ok(tree) => judge_module(alloc, &tree),
+        Ok(read) => judge_module(alloc, &read.tree, &read.specs),
         Err(Refused::NoMemory) => Err(NoMemory),
         Err(Refused::TooLong) => Ok(Verdict::TooLong),
         Err(Refused::Lex(fault)) => fault_verdict(fault),
         Err(Refused::Parse(fault)) => parse_verdict(fault),
         Err(Refused::Scope(fault)) => scope_verdict(fault),
+        Err(Refused::Spec(fault)) => spec_verdict(alloc, fault),
         Err(Refused::NotBuilt) => Ok(Verdict::NotBuilt),
         Err(Refused::Types(_)) => unreachable!(),
     }
@@ -82,12 +87,46 @@ fn scope_verdict(fault: ScopeFault) -> Result<Verdict, NoMemory>
     }
 }
 
-/// What is to be said of a flat module.
-fn judge_module(alloc: Global, tree: &Module) -> Result<Verdict, NoMemory>
-    requires { IsFlatModule tree.now }
+/// What is out of the profile, in words.
+fn outside_words(alloc: Global, what: Outside) -> Result<Text, NoMemory>
+    ensures { IfOk result (λ words. words ≡ type_faults.outside_words what) }
+{
+    let words: &[u8] = match what {
+        Outside::RecordDefault => b"record default",
+        Outside::MapKey => b"map key",
+        Outside::UnusableType => b"type",
+        Outside::NonRegularType => b"non-regular type",
+        Outside::CyclicBound => b"cyclic bound",
+    };
+    Ok(Text::from_slice(alloc, words)?)
+}
+
+/// The verdict on a text with whose module's types, records or specs something is wrong.
+fn spec_verdict(alloc: Global, fault: SpecFault) -> Result<Verdict, NoMemory>
+    ensures { IfOk result (λ verdict. (text : Listed ℕ) → IsSpecRefusal text fault → length text ≤ text_limit → IsRightVerdict text verdict) }
+{
+    match fault {
+        SpecFault::NoMemory => Err(NoMemory),
+        SpecFault::NoSuchType(place) => Ok(not_text(place, Words::NoSuchType)),
+        SpecFault::Repeated(place) => Ok(not_text(place, Words::Repeated)),
+        SpecFault::NotContractive(place) => Ok(not_text(place, Words::NotContractive)),
+        SpecFault::NegatedFun(place) => Ok(not_text(place, Words::NegatedFun)),
+        SpecFault::OutOfProfile(place, what) => {
+            let form = outside_words(alloc, what)?;
+            Ok(not_text(place, Words::OutOfProfile(form)))
+        }
+        SpecFault::ArityDiffers(place) => Ok(not_text(place, Words::ArityDiffers)),
+        SpecFault::BadRange(place) => Ok(not_text(place, Words::EmptyRange)),
+    }
+}
+
+/// What is to be said of a flat module, whose specs these are.
+fn judge_module(alloc: Global, tree: &Module, specs: &Specs) -> Result<Verdict, NoMemory>
+    requires flat { IsFlatModule tree.now }
+    requires specs { module_specs tree.now ≡ Some specs.now }
     ensures { IfOk result (IsModuleVerdict tree.now) }
 {
-    match check_module(alloc, tree) {
+    match check_module(alloc, tree, specs) {
         Ok(accepted) => Ok(Verdict::Accepted {
             name: accepted.name,
             functions: accepted.functions,

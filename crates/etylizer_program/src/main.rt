@@ -6,16 +6,15 @@ mod command;
 mod count;
 pub mod examples;
 mod judge;
-mod outside;
 mod report;
 #[cfg(test)]
 mod tests;
 mod tool;
 
-use outside::{StdFiles, StdSink};
 use std::process::ExitCode;
 use std::{env, io};
 use tool::{NO_MEMORY, run_tool};
+use tool_io::{StdFiles, StdSink};
 
 /// Runs the tool on the command line, over the files of the system and standard output.
 fn main(rt: HostRuntime) -> ExitCode {

@@ -31,8 +31,8 @@ pub enum Verdict {
         kind: Kind,
         shown: Shown,
     },
-    /// The text is UTF-8, within the limit of length, and no module, or one whose names are wrong: why,
-    /// and where.
+    /// The text is UTF-8, within the limit of length, and no module, or one whose names, types or specs are
+    /// wrong: why, and where.
     NotText {
         place: Place,
         words: Words,
@@ -44,13 +44,13 @@ pub enum Verdict {
     },
     /// The text is longer than a module may be.
     TooLong,
-    /// The text is a module whose names are right, and which isn't flat.
+    /// The text is a module whose names, types and specs are right, and which isn't flat.
     NotBuilt,
     /// The words are no command.
     Usage,
 }
 
-/// Why a text is no module with right names.
+/// Why a text is no module with right names, types and specs.
 #[derive(Drop)]
 pub enum Words {
     BadToken,
@@ -76,10 +76,18 @@ pub enum Words {
     NoSuchRecord,
     /// A field that its record doesn't have.
     NoSuchField,
-    /// A field that stands twice.
+    /// A field, a type, a record, a spec, a key or a bounded variable that stands twice.
     Repeated,
-    /// A clause with another number of patterns than the first one.
+    /// A clause with another number of patterns or parameters than the first one.
     ArityDiffers,
+    /// A type, a record or a field in a type that isn't declared.
+    NoSuchType,
+    /// A type that reaches itself under no constructor.
+    NotContractive,
+    /// A fun type or a variable under an odd number of negations.
+    NegatedFun,
+    /// A range whose lower end is above the upper one.
+    EmptyRange,
 }
 
 /// The text of a verdict: one line.
@@ -155,6 +163,10 @@ fn push_words(out: &mut Vec<u8>, words: &Words) -> Result<(), AllocError>
         Words::NoSuchField => out.extend_from_slice(b"no such field"),
         Words::Repeated => out.extend_from_slice(b"repeated"),
         Words::ArityDiffers => out.extend_from_slice(b"arity differs"),
+        Words::NoSuchType => out.extend_from_slice(b"no such type"),
+        Words::NotContractive => out.extend_from_slice(b"not contractive"),
+        Words::NegatedFun => out.extend_from_slice(b"negated fun type"),
+        Words::EmptyRange => out.extend_from_slice(b"empty range"),
     }
 }
 

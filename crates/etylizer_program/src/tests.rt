@@ -1,10 +1,6 @@
 ghost use Rattle.std.specs.Prelude.{◌≡◌, ℕ, List, [], ◌∷◌, IfOk};
 
 use crate::check::{Refused, check_text};
-use crate::outside::{
-    Files, LoadFault, MemoryFiles, MemorySink, PutFault, Sink, StdFiles, StdSink, StoreFault,
-    SureFiles, SureSink,
-};
 use crate::report::{Verdict, report};
 use crate::tool::{Status, run_tool};
 use cert_checker::{FirstRefusal, Shown};
@@ -15,8 +11,9 @@ use erl_tree::Place;
 use std::alloc::Global;
 use std::process::Abort;
 use std::test::Fail;
-use std::{env, fs};
+use tool_io::{MemoryFiles, MemorySink, SureFiles, SureSink};
 use type_terms::{Bytes, Key, Kind, List, NoMemory, Text};
+use typespecs::SpecFault;
 
 const IDENTITY: &[u8] = b"-module(a).\n-spec f(integer()) -> integer().\nf(X) -> X.\n";
 
@@ -142,7 +139,11 @@ const MODULES: [(&[u8], Status, &[u8]); 28] = [
         3,
         b"not a module: 3:8: no such function\n",
     ),
-    (b"-spec f(3..1) -> b.\nf(_) -> b.\n", 3, NOT_BUILT),
+    (
+        b"-spec f(3..1) -> b.\nf(_) -> b.\n",
+        3,
+        b"not a module: 2:9: empty range\n",
+    ),
     (b"-spec f() -> integer().\nf() -> - 1.\n", 3, NOT_BUILT),
     (
         b"-spec f() -> integer().\nf() -> 170141183460469231731687303715884105726.\n",
@@ -483,6 +484,131 @@ fn tells_wrong_names(rt: HostRuntime) -> Result<(), Fail> {
     Ok(())
 }
 
+/// Lines behind `-module(a).` whose types, records or specs are wrong, the place of their first fault and its words.
+const WRONG_SPECS: [(&str, &str); 32] = [
+    ("-type t() :: t() | a.", "2:7: not contractive"),
+    (
+        "-type u(A) :: A.\n-type t() :: u(t()).",
+        "3:7: not contractive",
+    ),
+    (
+        "-spec f(ety:negation(fun((a) -> b))) -> a.\nf(_) -> a.",
+        "2:8: negated fun type",
+    ),
+    (
+        "-spec f(ety:negation(A)) -> a.\nf(_) -> a.",
+        "2:8: negated fun type",
+    ),
+    (
+        "-type n(A) :: ety:negation(A).\n-spec f(n(fun((a) -> b))) -> a.\nf(_) -> a.",
+        "3:8: negated fun type",
+    ),
+    ("-spec f(foo()) -> b.\nf(_) -> b.", "2:9: no such type"),
+    (
+        "-type t(A) :: A.\n-spec f(t()) -> b.\nf(_) -> b.",
+        "3:9: no such type",
+    ),
+    ("-type t() :: A.", "2:14: no such type"),
+    ("-record(r, {a :: A}).", "2:18: no such type"),
+    ("-spec f(#r{}) -> b.\nf(_) -> b.", "2:9: no such type"),
+    (
+        "-record(r, {a}).\n-spec f(#r{b :: c}) -> d.\nf(_) -> d.",
+        "3:12: no such type",
+    ),
+    ("-type t() :: a.\n-type t() :: b.", "3:1: repeated"),
+    ("-type list() :: a.", "2:1: repeated"),
+    ("-type pid(A) :: A.", "2:1: repeated"),
+    ("-record(r, {a}).\n-record(r, {b}).", "3:1: repeated"),
+    (
+        "-spec f(a) -> a.\n-spec f(b) -> b.\nf(_) -> a.",
+        "3:1: repeated",
+    ),
+    ("-record(r, {a, a}).", "2:16: repeated"),
+    (
+        "-spec f(#{a := b, a => c}) -> d.\nf(_) -> d.",
+        "2:19: repeated",
+    ),
+    (
+        "-spec f(#{$a => b, 97 => c}) -> d.\nf(_) -> d.",
+        "2:20: repeated",
+    ),
+    (
+        "-spec f(#{atom() => b, atom() => c}) -> d.\nf(_) -> d.",
+        "2:24: repeated",
+    ),
+    (
+        "-spec f(A) -> a when A :: b, A :: c.\nf(_) -> a.",
+        "2:8: repeated",
+    ),
+    (
+        "-record(r, {a = {b, (c)}}).",
+        "2:17: out of profile: record default",
+    ),
+    (
+        "-spec f(#{{} => a}) -> b.\nf(_) -> b.",
+        "2:11: out of profile: map key",
+    ),
+    (
+        "-spec f(#{integer() := a}) -> b.\nf(_) -> b.",
+        "2:11: out of profile: map key",
+    ),
+    (
+        "-spec f(pid()) -> a.\nf(_) -> a.",
+        "2:9: out of profile: type",
+    ),
+    (
+        "-type t(A) :: {A, t({A, A})}.",
+        "2:19: out of profile: non-regular type",
+    ),
+    (
+        "-record(r, {a :: #r{a :: b}}).",
+        "2:18: out of profile: non-regular type",
+    ),
+    (
+        "-spec f(A) -> B when A :: B, B :: A.\nf(X) -> X.",
+        "2:8: out of profile: cyclic bound",
+    ),
+    (
+        "-spec f(a) -> a; (a, b) -> b.\nf(_) -> a.",
+        "2:18: arity differs",
+    ),
+    (
+        "-type t() :: t().\n-spec f(foo()) -> a.\nf(_) -> a.",
+        "3:9: no such type",
+    ),
+    (
+        "-spec f(ety:negation(A)) -> a.\n-type t() :: t().\nf(_) -> a.",
+        "3:7: not contractive",
+    ),
+    ("-spec f(foo()) -> a.\nf(_) -> X.", "3:9: unbound variable"),
+];
+
+/// Lines behind `-module(a).` whose types, records and specs are right, of modules that aren't flat.
+const RIGHT_SPECS: [&str; 7] = [
+    "-type t() :: {a, t()}.\n-spec f(t()) -> none().\nf(X) -> X.",
+    "-spec f(ety:negation(fun())) -> a.\nf(_) -> a.",
+    "-spec f(X) -> Y when X :: integer(), Y :: integer().\nf(X) -> X + 1.",
+    "-type tree(K) :: leaf | {node, tree(K), K, tree(K)}.\n-spec f(tree(A)) -> [A].\nf(X) -> X.",
+    "-record(r, {a = [1, $a, {b, \"c\"}] :: term(), b}).\n-spec f(#r{a :: 1}) -> #r{}.\nf(X) -> X.",
+    "-spec f(#{a := b, 1 => c, integer() => d, atom() => e}) -> map().\nf(X) -> X.",
+    "-opaque t(A) :: {A}.\n-export_type([t/1, u/0]).\n-spec f(t(a)) -> {a}.\nf(X) -> X.",
+];
+
+#[test]
+fn tells_wrong_specs(rt: HostRuntime) -> Result<(), Fail> {
+    let alloc = rt.alloc();
+    for (lines, refusal) in WRONG_SPECS {
+        let text = format!(in alloc; "-module(a).\n{lines}\n")?;
+        let output = format!(in alloc; "not a module: {refusal}\n")?;
+        expect(&rt, alloc, text.as_bytes(), 3, output.as_bytes())?;
+    }
+    for lines in RIGHT_SPECS {
+        let text = format!(in alloc; "-module(a).\n{lines}\n")?;
+        expect(&rt, alloc, text.as_bytes(), 3, NOT_BUILT)?;
+    }
+    Ok(())
+}
+
 /// A function with three bindings, of which two have the same name.
 const NUMBERED: &[u8] =
     b"-module(a).\n-spec f(a) -> a.\nf(X) -> case X of Y -> [X || X <- Y] end.\n";
@@ -728,29 +854,10 @@ fn checks_texts(rt: HostRuntime) -> Result<(), Fail> {
     assert!(rt; matches!(&unexpected, Err(Refused::Parse(ParseFault::Unexpected(_)))));
     let wrong_names = check_text(alloc, b"-module(a).\nf() -> 1.\n");
     assert!(rt; matches!(&wrong_names, Err(Refused::Scope(ScopeFault::NoSpec(_)))));
+    let wrong_specs = check_text(alloc, b"-module(a).\n-type t() :: u().\n");
+    assert!(rt; matches!(&wrong_specs, Err(Refused::Spec(SpecFault::NoSuchType(_)))));
     let not_built = check_text(alloc, b"-module(a).\n-spec f() -> 1.\nf() -> (1), 1.\n");
     assert!(rt; matches!(&not_built, Err(Refused::NotBuilt)));
-    Ok(())
-}
-
-#[test]
-fn stores_in_memory(rt: HostRuntime) -> Result<(), Fail> {
-    let alloc = rt.alloc();
-    let mut files = SureFiles::new(alloc, List::new(alloc));
-    let name = Text::from_slice(alloc, b"m")?;
-    assert!(rt; files.bytes_of(&name).is_none());
-    assert!(rt;
-        files
-            .store(&name, &Bytes::from_slice(alloc, b"first")?)
-            .is_ok()
-    );
-    assert!(rt;
-        files
-            .store(&name, &Bytes::from_slice(alloc, b"second")?)
-            .is_ok()
-    );
-    let held = files.bytes_of(&name).ok_or("not held")?;
-    assert_eq!(rt; held.as_slice(), b"second".as_slice());
     Ok(())
 }
 
@@ -811,34 +918,6 @@ fn reports_quoted_atoms_and_funs(rt: HostRuntime) -> Result<(), Fail> {
     Ok(())
 }
 
-#[test]
-fn stores_and_loads_real_files(rt: HostRuntime) -> Result<(), Fail> {
-    let alloc = rt.alloc();
-    let mut files = StdFiles::new(rt.clone()?);
-    let path = env::temp_dir(&rt)?.join(alloc, "etylizer-test.tmp")?;
-    let name = Text::from_slice(alloc, path.as_str().as_bytes())?;
-    let bytes = Bytes::from_slice(alloc, b"abcdef")?;
-    assert!(rt; files.store(&name, &bytes).is_ok());
-    let whole = files.load(alloc, &name, 6).ok().ok_or("not loaded")?;
-    assert_eq!(rt; whole.as_slice(), b"abcdef".as_slice());
-    let beginning = files.load(alloc, &name, 2).ok().ok_or("not loaded")?;
-    assert_eq!(rt; beginning.as_slice(), b"abc".as_slice());
-    let missing = Text::from_slice(alloc, b"etylizer-test.none")?;
-    assert_eq!(rt;
-        files.load(alloc, &missing, 6).err(),
-        Some(LoadFault::Failed)
-    );
-    Ok(())
-}
-
-#[test]
-fn writes_to_real_output(rt: HostRuntime) -> Result<(), Fail> {
-    let mut out = StdSink::new(rt.stdout());
-    let bytes = Bytes::from_slice(rt.alloc(), b"written\n")?;
-    assert!(rt; out.put(&bytes).is_ok());
-    Ok(())
-}
-
 /// Runs the tool on `check m`. Gives the status and what was written.
 fn run_failing(
     alloc: Global,
@@ -884,38 +963,5 @@ fn answers_each_prefix(rt: HostRuntime) -> Result<(), Fail> {
         let (status, _) = run(alloc, &["check", "m"], &IDENTITY[..length])?;
         assert_eq!(rt; status, expected);
     }
-    Ok(())
-}
-
-#[test]
-fn fails_at_listed_calls_of_files(rt: HostRuntime) -> Result<(), Fail> {
-    let alloc = rt.alloc();
-    let mut files = MemoryFiles::new(alloc, held(alloc, b"abcdef")?, one(alloc, 1)?);
-    let name = Text::from_slice(alloc, b"m")?;
-    let beginning = files.load(alloc, &name, 2).ok().ok_or("not loaded")?;
-    assert_eq!(rt; beginning.as_slice(), b"abc".as_slice());
-    let bytes = Bytes::from_slice(alloc, b"xy")?;
-    assert_eq!(rt; files.store(&name, &bytes).err(), Some(StoreFault::Failed));
-    assert!(rt; files.store(&name, &bytes).is_ok());
-    let stored = files.bytes_of(&name).ok_or("nothing is held")?;
-    assert_eq!(rt; stored.as_slice(), b"xy".as_slice());
-    let missing = Text::from_slice(alloc, b"other")?;
-    assert_eq!(rt;
-        files.load(alloc, &missing, 2).err(),
-        Some(LoadFault::Failed)
-    );
-    assert!(rt; files.bytes_of(&missing).is_none());
-    Ok(())
-}
-
-#[test]
-fn fails_at_listed_puts(rt: HostRuntime) -> Result<(), Fail> {
-    let alloc = rt.alloc();
-    let mut out = MemorySink::new(alloc, one(alloc, (1, 9))?);
-    let bytes = Bytes::from_slice(alloc, b"ab")?;
-    assert!(rt; out.put(&bytes).is_ok());
-    assert_eq!(rt; out.put(&bytes).err(), Some(PutFault::Failed));
-    assert!(rt; out.put(&bytes).is_ok());
-    assert_eq!(rt; out.bytes().as_slice(), b"ababab".as_slice());
     Ok(())
 }

@@ -1,17 +1,18 @@
 ghost use Rattle.std.specs.Prelude.{◌≡◌, ◌≢◌, ◌⊎◌, ◌↔◌, ◌<◌, ◌≤◌, None, IsSome, IsTrue, map, string_bytes};
-ghost use Rattle.etylizer_program.specs.Outside.{IsHeld, Rose, Puts, PutsBeginning};
+ghost use Rattle.tool_io.specs.Outside.{IsHeld, Rose, Puts, PutsBeginning};
 ghost use Rattle.etylizer_program.specs.Commands.{command_of};
 ghost use Rattle.etylizer_program.specs.Report.{report_text};
-ghost use Rattle.etylizer_program.specs.Tool.{AcceptsSafeText, Judges, JudgesFile, JudgesText, BreaksOff, BeginsFileReport, BeginsTextReport, HoldsNamedFile, NamesRightModule, NamesNoModule, NamesNotBuilt, NamesWrongNames, verdict_status};
-ghost use Rattle.etylizer_program.specs.Check.{fault_words};
+ghost use Rattle.etylizer_program.specs.Tool.{AcceptsSafeText, Judges, JudgesFile, JudgesText, BreaksOff, BeginsFileReport, BeginsTextReport, HoldsNamedFile, NamesRightModule, NamesNoModule, NamesNotBuilt, NamesWrongNames, NamesWrongSpecs, verdict_status};
+ghost use Rattle.etylizer_program.specs.Check.{fault_words, spec_fault_words};
 ghost use Rattle.scope_rules.specs.declared.fault.PlacedFault.{PlacedFault};
+ghost use Rattle.type_rules.specs.declared.fault.PlacedFault.{PlacedFault as TypePlacedFault};
 
 use crate::check::TEXT_LIMIT;
 use crate::command::{Command, command_of};
 use crate::judge::judge;
-use crate::outside::{Files, LoadFault, PutFault, Sink};
 use crate::report::{Verdict, report};
 use std::alloc::Global;
+use tool_io::{Files, LoadFault, PutFault, Sink};
 use type_terms::{NoMemory, Text};
 
 /// How the program ends.
@@ -25,7 +26,7 @@ const REFUSED: Status = 1;
 
 const USAGE: Status = 2;
 
-/// A text that is too long or no module of the profile, or whose module has wrong names or isn't flat.
+/// A text that is too long or no module of the profile, or whose module has wrong names, types or specs, or isn't flat.
 const NOT_A_MODULE: Status = 3;
 
 const READ_FAULT: Status = 4;
@@ -37,7 +38,7 @@ pub const NO_MEMORY: Status = 6;
 /// Does what the words ask for, and writes one report.
 ///
 /// The words don't have the program's own name. Refusals come in this order: the words, the load, the
-/// text's length, its reading, its names, its types, the put. Want of memory may come in between.
+/// text's length, its reading, its names, its specs, its types, the put. Want of memory may come in between.
 pub fn run_tool<F: Files, O: Sink>(
     alloc: Global,
     words: &Vec<String>,
@@ -53,11 +54,12 @@ pub fn run_tool<F: Files, O: Sink>(
     // Where the files tell what they hold, and unless the files or the sink fail or memory runs out: a
     // flat module all of whose constraints hold is accepted; a text that is no module, or whose module
     // is nested too deep, is refused, `judged` says by which words; one whose names are wrong is refused
-    // with the first fault at its place; and a module with right names that isn't flat gets "not built
-    // yet".
+    // with the first fault at its place, and so is one whose names are right and whose types, records
+    // or specs are wrong; and a readable module that isn't flat gets "not built yet".
     ensures complete { NamesRightModule (map string_bytes words.now.items) (F.held files.old) → (Rose (F.faults files.old) (F.faults files.new) → ⊥) → (Rose (O.faults out.old) (O.faults out.new) → ⊥) → (result ≡ 0) ⊎ (result ≡ 6) }
     ensures no_module { NamesNoModule (map string_bytes words.now.items) (F.held files.old) → (Rose (F.faults files.old) (F.faults files.new) → ⊥) → (Rose (O.faults out.old) (O.faults out.new) → ⊥) → (result ≡ 3) ⊎ (result ≡ 6) }
     ensures wrong_names { (fault : PlacedFault) → NamesWrongNames (map string_bytes words.now.items) (F.held files.old) fault → (Rose (F.faults files.old) (F.faults files.new) → ⊥) → (Rose (O.faults out.old) (O.faults out.new) → ⊥) → ((result ≡ 3) × Puts (O.written out.old) (O.written out.new) (report_text (Verdict.NotText fault.place (fault_words fault.fault)))) ⊎ (result ≡ 6) }
+    ensures wrong_specs { (fault : TypePlacedFault) → NamesWrongSpecs (map string_bytes words.now.items) (F.held files.old) fault → (Rose (F.faults files.old) (F.faults files.new) → ⊥) → (Rose (O.faults out.old) (O.faults out.new) → ⊥) → ((result ≡ 3) × Puts (O.written out.old) (O.written out.new) (report_text (Verdict.NotText fault.place (spec_fault_words fault.fault)))) ⊎ (result ≡ 6) }
     ensures not_built { NamesNotBuilt (map string_bytes words.now.items) (F.held files.old) → (Rose (F.faults files.old) (F.faults files.new) → ⊥) → (Rose (O.faults out.old) (O.faults out.new) → ⊥) → ((result ≡ 3) × Puts (O.written out.old) (O.written out.new) (report_text Verdict.NotBuilt)) ⊎ (result ≡ 6) }
 
     // Words that are no command, and no others, are answered with the usage.

@@ -15,3 +15,10 @@ pub mod InProfile
 pub mod SeenVariables
 pub mod RightFlatNames
 pub mod FlatLaws
+pub mod FlatTermLaws
+pub mod FlatTermExamples
+pub mod FlatTypeTerms
+pub mod FlatVariables
+pub mod WholeSpecs
+pub mod DistinctSpecs
+pub mod HasSpecs

@@ -21,13 +21,13 @@ use Rattle.erl_tree.specs.declared.form.Module.{Module}
 use Rattle.erl_grammar.proofs.Layers.{each}
 use Rattle.erl_runs.specs.Names.{same_id, is_built_in}
 use Rattle.erl_runs.specs.Records.{records_of}
-use Rattle.erl_runs.specs.Specs.{and_then, all_present, type_term, clause_arrow, arrows_arity, function_spec, specified_id, specs_in, specs_of, spec_id}
+use Rattle.erl_runs.specs.Specs.{and_then, all_present, specified_id, specs_in, spec_id}
+use Rattle.flat_modules.specs.FlatSpecs.{type_term, clause_arrow, arrows_arity, function_spec, specs_of, HasFlatSpecs}
 use Rattle.scope_rules.specs.declared.fault.NameFault.{NameFault}
 use Rattle.scope_rules.specs.declared.fault.NameFault.TheVariants.{NoSuchFunction, TwoFunctions, NoSpec}
 use Rattle.scope_rules.specs.Occurrences.{function_occurrences, forms_occurrences, occurrences_of}
-use Rattle.scope_rules.specs.ScopeFaults.{unless, faults_of_each, occurrence_faults, function_faults, specified_in, forms_faults}
+use Rattle.scope_rules.specs.ScopeFaults.{unless, faults_of_each, occurrence_faults, function_faults, specified_in, forms_faults, HasRightNames}
 use Rattle.scope_rules.proofs.OccurrenceLists.{faults_of_each-append}
-use Rattle.readable_modules.specs.Readable.{IsReadable}
 use Rattle.flat_modules.specs.FlatNames.{IsScoped, HasRightFlatNames}
 use Rattle.flat_modules.specs.Grammar.{IsForm, is_module_layer, IsWellFormed}
 use Rattle.flat_modules.proofs.Lists.{every-so}
@@ -51,7 +51,7 @@ known-among id (x ∷ xs) h = go (same_id id x) refl h (known-among id xs)
     go true e h more = inl (id-is id x e)
     go false e h more = inr (more h)
 
-none-among : (id : FunctionId) (ids : List FunctionId) → list_any (same_id id) ids ≡ false → Among id ids → ⊥
+pub none-among : (id : FunctionId) (ids : List FunctionId) → list_any (same_id id) ids ≡ false → Among id ids → ⊥
 none-among id [] h i = i
 none-among id (x ∷ xs) h i = go (same_id id x) refl h i (none-among id xs)
   where
@@ -60,7 +60,7 @@ none-among id (x ∷ xs) h i = go (same_id id x) refl h i (none-among id xs)
     go false e h (inl q) more = true≢false (sym (ap (same_id id) (sym q) ∙ id-refl id) ∙ e)
     go false e h (inr i) more = more h i
 
-neither : (a b : Bool) → not (a || b) ≡ true → (a ≡ false) × (b ≡ false)
+pub neither : (a b : Bool) → not (a || b) ≡ true → (a ≡ false) × (b ≡ false)
 neither true b h = absurd (true≢false (sym h))
 neither false true h = absurd (true≢false (sym h))
 neither false false h = (refl, refl)
@@ -137,7 +137,7 @@ arrow-length c a e =
     let r : (t : Term) × (type_term c.kind.result ≡ Some t) × (Some (record { params = p.0; result = t }) ≡ Some a) = before-some (type_term c.kind.result) _ a p.2 in
     ap (λ (z : Arrow). length z.params) (sym (some-same _ a r.2)) ∙ present-length type_term c.kind.params p.0 p.1
 
-arrows-arity : (cs : List (Node SpecClauseKind)) (arrows : List Arrow) → all_present (map clause_arrow cs) ≡ Some arrows → arrows_arity arrows ≡ spec_clauses_arity cs
+pub arrows-arity : (cs : List (Node SpecClauseKind)) (arrows : List Arrow) → all_present (map clause_arrow cs) ≡ Some arrows → arrows_arity arrows ≡ spec_clauses_arity cs
 arrows-arity [] arrows e = ap arrows_arity (sym (some-same [] arrows e))
 arrows-arity (c ∷ cs) arrows e =
     let a : (a : Arrow) × (clause_arrow c ≡ Some a) × (and_then (all_present (map clause_arrow cs)) (λ more. Some (a ∷ more)) ≡ Some arrows) = before-some (clause_arrow c) _ arrows e in
@@ -149,7 +149,7 @@ name-read s f e =
     let a : (arrows : List Arrow) × (all_present (map clause_arrow s.kind.clauses) ≡ Some arrows) × (Some (record { name = s.kind.name; arity = arrows_arity arrows; vars = 0; clauses = arrows }) ≡ Some f) = before-some _ _ f e in
     ap spec_id (sym (some-same _ f a.2)) ∙ ap (of_function s.kind.name) (arrows-arity s.kind.clauses a.0 a.1)
 
-names-read : (ss : List (Node SpecKind)) (fs : List FunSpec) → all_present (map function_spec ss) ≡ Some fs → map spec_id fs ≡ map specified_id ss
+pub names-read : (ss : List (Node SpecKind)) (fs : List FunSpec) → all_present (map function_spec ss) ≡ Some fs → map spec_id fs ≡ map specified_id ss
 names-read [] fs e = ap (map spec_id) (sym (some-same [] fs e))
 names-read (s ∷ ss) fs e =
     let f : (f : FunSpec) × (function_spec s ≡ Some f) × (and_then (all_present (map function_spec ss)) (λ more. Some (f ∷ more)) ≡ Some fs) = before-some (function_spec s) _ fs e in
@@ -175,15 +175,15 @@ forms_formed : (forms : List TreeForm) (ms : List Place) → is_module_layer for
 forms_formed forms (h ∷ m ∷ o ∷ n ∷ c ∷ d ∷ e ∷ []) i = i
 forms_formed forms _ i = absurd i
 
-forms-formed : (m : Module) → IsWellFormed m → Every IsForm m.forms
+pub forms-formed : (m : Module) → IsWellFormed m → Every IsForm m.forms
 unfolding IsWellFormed
 forms-formed m w = forms_formed m.forms m.marks w
 
-pub right-flat-names : (m : Module) → IsWellFormed m → IsReadable m → HasRightFlatNames m
-right-flat-names m w r =
-    let parts : (faults_of_each occurrence_faults (occurrences_of m) ≡ []) × (forms_faults m [] m.forms ≡ []) = append-none _ _ r.right_names in
+pub right-flat-names : (m : Module) → IsWellFormed m → HasRightNames m → HasFlatSpecs m → HasRightFlatNames m
+right-flat-names m w r s =
+    let parts : (faults_of_each occurrence_faults (occurrences_of m) ≡ []) × (forms_faults m [] m.forms ≡ []) = append-none _ _ r in
     let right : AreRightForms m [] m.forms = right-forms m [] m.forms (forms-formed m w) parts.1 in
-    let named : map spec_id (specs_of m) ≡ specified_in m.forms = names-read (specs_in m.forms) (specs_of m) r.specs_read ∙ sym (specified-names m.forms) in
+    let named : map spec_id (specs_of m) ≡ specified_in m.forms = names-read (specs_in m.forms) (specs_of m) s.specs_read ∙ sym (specified-names m.forms) in
     record {
       functions_distinct = right.distinct;
       not_built_in = right.not_built_in;

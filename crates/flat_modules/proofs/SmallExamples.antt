@@ -30,7 +30,7 @@ use Rattle.erl_grammar.specs.FormGrammar as GF
 use Rattle.erl_grammar.proofs.Layers.{each, postfix_layer, expr-layer}
 use Rattle.erl_grammar.proofs.Layers as GL
 use Rattle.erl_grammar.specs.FormSpelling.{module_tokens}
-use Rattle.erl_runs.specs.Specs.{specs_of}
+use Rattle.flat_modules.specs.FlatSpecs.{specs_of, module_specs_of}
 use Rattle.erl_runs.proofs.TextExamples.{small_module_spelled}
 use Rattle.flat_modules.specs.Flat.{flat_item_layer, flat_clause_layer, is_flat_expr, is_flat}
 use Rattle.flat_modules.specs.FlatModules.{IsFlatModule}
@@ -38,6 +38,7 @@ use Rattle.flat_modules.specs.SmallModules.{clause_with, function_with, module_w
 use Rattle.flat_modules.proofs.Layers.{flat_expr_of, flat_expr-out}
 use Rattle.flat_modules.proofs.ModuleLaws.{module-passing}
 use Rattle.flat_modules.proofs.RightFlatNames.{right-flat-names}
+use Rattle.flat_modules.proofs.HasSpecs.{has-specs}
 
 -- ---- a function of an expression
 
@@ -142,12 +143,17 @@ call-not-whole h =
 
 -- ---- specs
 
+small-formed : IsWellFormed small_module
+unfolding IsWellFormed
+small-formed = tt
+
 pub no-functions : IsFlatModule small_module
 unfolding is_flat specs_of module_tokens
 no-functions = record {
   well_formed = small_module_spelled.well_formed;
   flat = refl;
-  readable = record { right_names = refl; specs_read = refl; specs_distinct = tt };
+  readable = record { right_names = refl; specs = module_specs_of small_module; has_specs = has-specs small_module small-formed refl refl tt };
+  flat_specs = record { specs_read = refl; specs_distinct = tt };
   distinct_heads = tt;
   own_calls = tt;
   within = refl;
@@ -156,4 +162,4 @@ no-functions = record {
 
 pub no-spec : IsFlatModule module_with_sum → ⊥
 unfolding specs_of
-no-spec h = (right-flat-names module_with_sum sum-flat h.readable).specified.0
+no-spec h = (right-flat-names module_with_sum sum-flat h.readable.right_names h.flat_specs).specified.0

@@ -11,6 +11,7 @@ use Rattle.erl_grammar.specs.FormNesting.{IsModuleWithin}
 use Rattle.erl_grammar.specs.Nesting.{nesting_limit}
 use Rattle.erl_grammar.specs.Texts.{HasIntegersInLimit}
 use Rattle.readable_modules.specs.Readable.{IsReadable}
+use Rattle.flat_modules.specs.FlatSpecs.{HasFlatSpecs}
 use Rattle.flat_modules.specs.FlatNames.{bound_by, FunctionCallsOnly}
 use Rattle.flat_modules.specs.Flat.{is_flat}
 
@@ -22,11 +23,12 @@ HasDistinctHead c = AreDistinct (bound_by (out-ClauseKind c.kind).patterns)
 abbrev pub HasDistinctHeads : Function → Type 0
 HasDistinctHeads f = Every HasDistinctHead f.clauses
 
--- a well-formed module that is flat, in which names are used rightly, the variables of each head are distinct and calls are of the module's own functions alone, nested at most 256 levels deep and with integers within the limit
+-- a well-formed module that is flat, in which names, types and specs are used rightly, each spec has terms of flat types, the variables of each head are distinct and calls are of the module's own functions alone, nested at most 256 levels deep and with integers within the limit
 pub record IsFlatModule (m : Module) : Type 0 where
   pub well_formed : IsModule m
   pub flat : is_flat m ≡ true
   pub readable : IsReadable m
+  pub flat_specs : HasFlatSpecs m
   pub distinct_heads : Every HasDistinctHeads (functions_of m)
   pub own_calls : Every (FunctionCallsOnly (function_ids m)) (functions_of m)
   pub within : IsModuleWithin nesting_limit m

@@ -16,7 +16,8 @@ use Rattle.erl_tree.specs.declared.form.Function.{Function}
 use Rattle.erl_tree.specs.declared.form.Module.{Module}
 use Rattle.erl_tree.specs.Functions.{FunctionId, of_function, functions_of, function_ids}
 use Rattle.erl_runs.specs.Names.{is_wildcard, is_built_in}
-use Rattle.erl_runs.specs.Specs.{specs_of, spec_id}
+use Rattle.erl_runs.specs.Specs.{spec_id}
+use Rattle.flat_modules.specs.FlatSpecs.{specs_of}
 
 -- ---- variables
 

@@ -2,6 +2,7 @@
 #![tactic(auto)]
 
 pub mod examples;
+pub mod examples_of_types;
 mod exprs;
 mod flat;
 mod functions;

@@ -1,31 +1,30 @@
 -- The tests of the forms and of their names say together that a module is flat.
-use Rattle.std.proofs.Common.{◌≡◌, List, [], ◌∷◌, ◌++◌, map, ◌↔◌, Bool, true, false, refl, sym, ap, ◌∙◌, subst, true≢false, Option, Some, None, is_some}
+use Rattle.std.proofs.Common.{◌≡◌, List, [], ◌∷◌, ◌↔◌, Bool, true, false, refl, sym, ap, ◌∙◌, subst, true≢false, Option, Some, None, is_some}
 use Rattle.std.specs.Prelude.{IsTrue, IsSome, IfOk, Result, Ok, Err}
 use Rattle.std.specs.Option.{unwrap_or}
 use Rattle.type_terms.specs.declared.list.NoMemory.{NoMemory}
 use Rattle.type_terms.specs.declared.spec.FunSpec.{FunSpec}
-use Rattle.erl_tree.specs.declared.token.Node.{Node}
-use Rattle.erl_tree.specs.declared.form.Function.{Function}
 use Rattle.erl_tree.specs.declared.form.TreeForm.{TreeForm}
 use Rattle.erl_tree.specs.declared.form.TreeForm.TheVariants as F
 use Rattle.erl_tree.specs.declared.form.Module.{Module}
-use Rattle.erl_tree.specs.Lists.{Every, Among, AreDistinct}
-use Rattle.erl_tree.specs.Functions.{FunctionId, function_id, functions_in, function_ids}
-use Rattle.erl_runs.specs.Specs.{function_spec, specs_in, read_specs, specs_of, spec_id}
+use Rattle.erl_tree.specs.Lists.{Every, AreDistinct}
+use Rattle.erl_tree.specs.Functions.{FunctionId, functions_in, function_ids}
+use Rattle.erl_runs.specs.Specs.{specs_in}
+use Rattle.flat_modules.specs.FlatSpecs.{function_spec, read_specs, specs_of}
 use Rattle.erl_grammar.specs.FormGrammar.{IsModule}
 use Rattle.erl_grammar.specs.FormNesting.{IsModuleWithin}
 use Rattle.erl_grammar.specs.Nesting.{nesting_limit}
 use Rattle.erl_grammar.specs.Texts.{HasIntegersInLimit}
-use Rattle.scope_rules.specs.ScopeFaults.{HasRightNames}
+use Rattle.readable_modules.specs.Readable.{IsReadable}
 use Rattle.flat_modules.specs.FlatNames.{FunctionCallsOnly}
 use Rattle.flat_modules.specs.Flat.{is_flat}
 use Rattle.flat_modules.specs.FlatModules.{HasDistinctHeads, IsFlatModule}
 use Rattle.flat_modules.proofs.FlatLaws.{flat-formed}
 use Rattle.flat_modules.proofs.RightFlatNames.{right-flat-names}
-use Rattle.flat_tests.specs.declared.function_names.Role.TheVariants.{Definition, Specification}
+use Rattle.flat_modules.proofs.DistinctSpecs.{flat-specs}
 use Rattle.flat_tests.specs.Names.{names_in, FormCallsOnly, IsRightForm, HasMatchingNames}
-use Rattle.flat_tests.proofs.SpecTerms.{all-some, some-all, spec_ids}
-use Rattle.flat_tests.proofs.FunctionNames.{defined, specified}
+use Rattle.flat_tests.proofs.SpecTerms.{all-some, some-all}
+use Rattle.flat_tests.proofs.FunctionNames.{defined}
 
 -- ---- right forms
 
@@ -69,15 +68,15 @@ specs_there m h = there (read_specs m) h
 
 -- ---- the whole
 
-pub flat : (m : Module) → IsModule m → IsModuleWithin nesting_limit m → HasIntegersInLimit m → HasRightNames m → is_flat m ≡ true → Every IsRightForm m.forms → HasMatchingNames m.forms → IsFlatModule m
-flat m well_formed within in_limit right_names passes forms names =
+pub flat : (m : Module) → IsModule m → IsModuleWithin nesting_limit m → HasIntegersInLimit m → IsReadable m → is_flat m ≡ true → Every IsRightForm m.forms → HasMatchingNames m.forms → IsFlatModule m
+flat m well_formed within in_limit readable passes forms names =
     let read : read_specs m ≡ Some (specs_of m) = specs_there m (all-some function_spec (specs_in m.forms) (right_specs m.forms forms)) in
-    let ids : names_in Definition m.forms ≡ function_ids m = defined m.forms in
-    let specs : names_in Specification m.forms ≡ map spec_id (specs_of m) = specified m.forms ∙ sym (spec_ids (specs_in m.forms) (specs_of m) read) in
+    let ids : names_in m.forms ≡ function_ids m = defined m.forms in
     record {
       well_formed = well_formed;
       flat = passes;
-      readable = record { right_names = right_names; specs_read = read; specs_distinct = subst AreDistinct specs names.specified_once };
+      readable = readable;
+      flat_specs = flat-specs m readable read;
       distinct_heads = right_functions m.forms forms;
       own_calls = form_calls (function_ids m) m.forms (subst (λ s. Every (FormCallsOnly s) m.forms) ids names.calls_defined);
       within = within;
@@ -85,15 +84,13 @@ flat m well_formed within in_limit right_names passes forms names =
     }
 
 pub flat_forms : (m : Module) → IsFlatModule m → Every IsRightForm m.forms
-flat_forms m h = right_forms m.forms (some-all function_spec (specs_in m.forms) (ap is_some h.readable.specs_read)) h.distinct_heads
+flat_forms m h = right_forms m.forms (some-all function_spec (specs_in m.forms) (ap is_some h.flat_specs.specs_read)) h.distinct_heads
 
 pub flat_names : (m : Module) → IsFlatModule m → HasMatchingNames m.forms
 flat_names m h =
-    let ids : function_ids m ≡ names_in Definition m.forms = sym (defined m.forms) in
-    let specs : map spec_id (specs_of m) ≡ names_in Specification m.forms = spec_ids (specs_in m.forms) (specs_of m) h.readable.specs_read ∙ sym (specified m.forms) in
+    let ids : function_ids m ≡ names_in m.forms = sym (defined m.forms) in
     record {
-      defined_once = subst AreDistinct ids (right-flat-names m (flat-formed m h) h.readable).functions_distinct;
-      specified_once = subst AreDistinct specs h.readable.specs_distinct;
+      defined_once = subst AreDistinct ids (right-flat-names m (flat-formed m h) h.readable.right_names h.flat_specs).functions_distinct;
       calls_defined = subst (λ s. Every (FormCallsOnly s) m.forms) ids (calls_of_forms (function_ids m) m.forms h.own_calls);
     }
 
@@ -108,11 +105,11 @@ module _ (m : Module) (forms : List TreeForm) (of_module : forms ≡ m.forms) wh
     wrong_forms fails h = absurd (true≢false (sym (says.1 (subst (Every IsRightForm) (sym of_module) (flat_forms m h))) ∙ fails))
 
     module _ (r : Result Bool NoMemory) (tells : IfOk r (λ b. IsTrue b ↔ HasMatchingNames forms)) where
-      pub sound : IsModule m → IsModuleWithin nesting_limit m → HasIntegersInLimit m → HasRightNames m → is_flat m ≡ true → a ≡ true → IfOk r (λ b. IsTrue b → IsFlatModule m)
-      sound well_formed within in_limit right_names passes holds = by r tells
+      pub sound : IsModule m → IsModuleWithin nesting_limit m → HasIntegersInLimit m → IsReadable m → is_flat m ≡ true → a ≡ true → IfOk r (λ b. IsTrue b → IsFlatModule m)
+      sound well_formed within in_limit readable passes holds = by r tells
         where
           by : (q : Result Bool NoMemory) → IfOk q (λ b. IsTrue b ↔ HasMatchingNames forms) → IfOk q (λ b. IsTrue b → IsFlatModule m)
-          by (Ok b) t = λ e. flat m well_formed within in_limit right_names passes (subst (Every IsRightForm) of_module (says.0 holds)) (subst HasMatchingNames of_module (t.0 e))
+          by (Ok b) t = λ e. flat m well_formed within in_limit readable passes (subst (Every IsRightForm) of_module (says.0 holds)) (subst HasMatchingNames of_module (t.0 e))
           by (Err e) t = t
 
       pub complete : IfOk r (λ b. IsFlatModule m → IsTrue b)

@@ -1,4 +1,4 @@
--- The functions that forms name, and the tables of them.
+-- The functions that forms define, and the tables of them.
 use Rattle.std.proofs.Common.{◌≡◌, ℕ, ◌+◌, ◌<◌, ◌≤◌, inl, ◌↔◌, Bool, true, false, List, [], ◌∷◌, ◌++◌, length, drop, get_or, map, refl, sym, ap, ◌∙◌, subst, true≢false, Option, Some, None, is_some, append_assoc, append-nil}
 use Rattle.std.specs.Prelude.{IsTrue, IfOk, MatchOption, Result, Ok, Err}
 use Rattle.std.proofs.lemmas.List.{drop_all}
@@ -7,28 +7,20 @@ use Rattle.erl_tree.specs.declared.form.TreeForm.{TreeForm}
 use Rattle.erl_tree.specs.declared.form.TreeForm.TheVariants as F
 use Rattle.erl_tree.specs.Lists.{Every, Among, AreDistinct}
 use Rattle.erl_tree.specs.Functions.{FunctionId, function_id, functions_in}
-use Rattle.erl_runs.specs.Specs.{specs_in, specified_id}
 use Rattle.function_table.specs.Table.{Entry, ids, IsInsertion, IsFound}
 use Rattle.function_table.proofs.Distinct.{AreDistinct-push}
 use Rattle.function_table.proofs.Lookups.{Among-ids}
-use Rattle.flat_tests.specs.declared.function_names.Role.{Role}
-use Rattle.flat_tests.specs.declared.function_names.Role.TheVariants.{Definition, Specification}
 use Rattle.flat_tests.specs.Names.{named_by, names_in, FormCallsOnly, HasMatchingNames}
 use Rattle.flat_tests.proofs.ForEach.{rest_at}
 use Rattle.flat_tests.proofs.Everywhere.{Every-among}
 use Rattle.flat_tests.proofs.Variables.{AreDistinct-left, AreDistinct-apart}
 
--- ---- what the forms name
+-- ---- what the forms define
 
-pub defined : (forms : List TreeForm) → names_in Definition forms ≡ map function_id (functions_in forms)
+pub defined : (forms : List TreeForm) → names_in forms ≡ map function_id (functions_in forms)
 defined [] = refl
 defined (F.Function f ∷ forms) = ap (λ ids. function_id f ∷ ids) (defined forms)
 defined (_ ∷ forms) = defined forms
-
-pub specified : (forms : List TreeForm) → names_in Specification forms ≡ map specified_id (specs_in forms)
-specified [] = refl
-specified (F.Spec s ∷ forms) = ap (λ ids. specified_id s ∷ ids) (specified forms)
-specified (_ ∷ forms) = specified forms
 
 -- ---- an insertion
 
@@ -55,49 +47,44 @@ pub defined_if_found : (es : List Entry) (id : FunctionId) (o : Option ℕ) (b :
 defined_if_found es id (Some n) b e h = ((λ _. Among-ids id n es h), λ _. e)
 defined_if_found es id None b e h = ((λ t. absurd (true≢false (sym t ∙ e))), λ g. absurd (h g))
 
--- ---- the table of the functions that forms name
+-- ---- the table of the functions that forms define
 
-module _ (role : Role) where
-  pub record IsGathered (forms : List TreeForm) (i : ℕ) (found : List FunctionId) : Type 0 where
-    pub so_far : found ++ names_in role (drop i forms) ≡ names_in role forms
-    pub distinct : AreDistinct found
+pub record IsGathered (forms : List TreeForm) (i : ℕ) (found : List FunctionId) : Type 0 where
+  pub so_far : found ++ names_in (drop i forms) ≡ names_in forms
+  pub distinct : AreDistinct found
 
-  pub gathered_first : (forms : List TreeForm) → IsGathered forms 0 []
-  gathered_first forms = record { so_far = refl; distinct = tt }
+pub gathered_first : (forms : List TreeForm) → IsGathered forms 0 []
+gathered_first forms = record { so_far = refl; distinct = tt }
 
-  split : (forms : List TreeForm) (i : ℕ) (form : TreeForm) (found : List FunctionId) → i < length forms → form ≡ get_or forms i form → IsGathered forms i found → (found ++ named_by role form) ++ names_in role (drop (i + 1) forms) ≡ names_in role forms
-  split forms i form found lt is g = append_assoc found (named_by role form) (names_in role (drop (i + 1) forms)) ∙ ap (λ rest. found ++ names_in role rest) (sym (rest_at forms i form lt is)) ∙ g.so_far
+split : (forms : List TreeForm) (i : ℕ) (form : TreeForm) (found : List FunctionId) → i < length forms → form ≡ get_or forms i form → IsGathered forms i found → (found ++ named_by form) ++ names_in (drop (i + 1) forms) ≡ names_in forms
+split forms i form found lt is g = append_assoc found (named_by form) (names_in (drop (i + 1) forms)) ∙ ap (λ rest. found ++ names_in rest) (sym (rest_at forms i form lt is)) ∙ g.so_far
 
-  pub gathered_next : (forms : List TreeForm) (i : ℕ) (form : TreeForm) (found new : List FunctionId) (b : Bool) → i < length forms → form ≡ get_or forms i form → IsGathered forms i found → (IsTrue b ↔ AreDistinct (found ++ named_by role form)) → b ≡ true → new ≡ found ++ named_by role form → IsGathered forms (i + 1) new
-  gathered_next forms i form found new b lt is g says holds e =
-      record { so_far = ap (λ f. f ++ names_in role (drop (i + 1) forms)) e ∙ split forms i form found lt is g; distinct = subst AreDistinct (sym e) (says.0 holds) }
+pub gathered_next : (forms : List TreeForm) (i : ℕ) (form : TreeForm) (found new : List FunctionId) (b : Bool) → i < length forms → form ≡ get_or forms i form → IsGathered forms i found → (IsTrue b ↔ AreDistinct (found ++ named_by form)) → b ≡ true → new ≡ found ++ named_by form → IsGathered forms (i + 1) new
+gathered_next forms i form found new b lt is g says holds e =
+    record { so_far = ap (λ f. f ++ names_in (drop (i + 1) forms)) e ∙ split forms i form found lt is g; distinct = subst AreDistinct (sym e) (says.0 holds) }
 
-  pub gathered_twice : (forms : List TreeForm) (i : ℕ) (form : TreeForm) (found : List FunctionId) (b : Bool) → i < length forms → form ≡ get_or forms i form → IsGathered forms i found → (IsTrue b ↔ AreDistinct (found ++ named_by role form)) → b ≡ false → AreDistinct (names_in role forms) → ⊥
-  gathered_twice forms i form found b lt is g says fails h =
-      true≢false (sym (says.1 (AreDistinct-left (found ++ named_by role form) (names_in role (drop (i + 1) forms)) (subst AreDistinct (sym (split forms i form found lt is g)) h))) ∙ fails)
+pub gathered_twice : (forms : List TreeForm) (i : ℕ) (form : TreeForm) (found : List FunctionId) (b : Bool) → i < length forms → form ≡ get_or forms i form → IsGathered forms i found → (IsTrue b ↔ AreDistinct (found ++ named_by form)) → b ≡ false → AreDistinct (names_in forms) → ⊥
+gathered_twice forms i form found b lt is g says fails h =
+    true≢false (sym (says.1 (AreDistinct-left (found ++ named_by form) (names_in (drop (i + 1) forms)) (subst AreDistinct (sym (split forms i form found lt is g)) h))) ∙ fails)
 
-  pub gathered_last : (forms : List TreeForm) (i : ℕ) (found : List FunctionId) → length forms ≤ i → IsGathered forms i found → found ≡ names_in role forms
-  gathered_last forms i found end g = sym (append-nil found) ∙ ap (λ rest. found ++ names_in role rest) (sym (drop_all i forms end)) ∙ g.so_far
+pub gathered_last : (forms : List TreeForm) (i : ℕ) (found : List FunctionId) → length forms ≤ i → IsGathered forms i found → found ≡ names_in forms
+gathered_last forms i found end g = sym (append-nil found) ∙ ap (λ rest. found ++ names_in rest) (sym (drop_all i forms end)) ∙ g.so_far
 
 -- the table that was made
-pub made_table : (role : Role) (forms : List TreeForm) (o : Option (List Entry)) (table : List Entry) → o ≡ Some table
-    → MatchOption o (AreDistinct (names_in role forms) → ⊥) (λ t. (ids t ≡ names_in role forms) × AreDistinct (ids t)) → (ids table ≡ names_in role forms) × AreDistinct (ids table)
-made_table role forms o table e h = subst (λ p. MatchOption p (AreDistinct (names_in role forms) → ⊥) (λ t. (ids t ≡ names_in role forms) × AreDistinct (ids t))) e h
+pub made_table : (forms : List TreeForm) (o : Option (List Entry)) (table : List Entry) → o ≡ Some table
+    → MatchOption o (AreDistinct (names_in forms) → ⊥) (λ t. (ids t ≡ names_in forms) × AreDistinct (ids t)) → (ids table ≡ names_in forms) × AreDistinct (ids table)
+made_table forms o table e h = subst (λ p. MatchOption p (AreDistinct (names_in forms) → ⊥) (λ t. (ids t ≡ names_in forms) × AreDistinct (ids t))) e h
 
--- ---- whether each function is defined once and specified once
+-- ---- whether each function is defined once
 
-pub defined_twice : (forms : List TreeForm) → (AreDistinct (names_in Definition forms) → ⊥) → IsTrue false ↔ HasMatchingNames forms
+pub defined_twice : (forms : List TreeForm) → (AreDistinct (names_in forms) → ⊥) → IsTrue false ↔ HasMatchingNames forms
 defined_twice forms h = ((λ e. absurd (true≢false (sym e))), λ g. absurd (h g.defined_once))
 
-pub specified_twice : (forms : List TreeForm) → (AreDistinct (names_in Specification forms) → ⊥) → IsTrue false ↔ HasMatchingNames forms
-specified_twice forms h = ((λ e. absurd (true≢false (sym e))), λ g. absurd (h g.specified_once))
-
-module _ (forms : List TreeForm) (definitions : List FunctionId) (all_definitions : definitions ≡ names_in Definition forms) (distinct : AreDistinct definitions) (distinct_specs : AreDistinct (names_in Specification forms)) where
+module _ (forms : List TreeForm) (definitions : List FunctionId) (all_definitions : definitions ≡ names_in forms) (distinct : AreDistinct definitions) where
   matching : (d : Bool) → (IsTrue d ↔ Every (FormCallsOnly definitions) forms) → IsTrue d ↔ HasMatchingNames forms
   matching d called = (
     (λ e. record {
       defined_once = subst AreDistinct all_definitions distinct;
-      specified_once = distinct_specs;
       calls_defined = subst (λ s. Every (FormCallsOnly s) forms) all_definitions (called.0 e);
     }),
     λ g. called.1 (subst (λ s. Every (FormCallsOnly s) forms) (sym all_definitions) g.calls_defined),

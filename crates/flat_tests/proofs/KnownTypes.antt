@@ -7,8 +7,8 @@ use Rattle.erl_tree.specs.declared.token.Node.{Node}
 use Rattle.erl_tree.specs.declared.pattern.LiteralKind.{LiteralKind}
 use Rattle.erl_tree.specs.declared.type_expr.TypeKind.{TypeKind}
 use Rattle.erl_tree.specs.declared.type_expr.TypeKind.TheVariants as Y
-use Rattle.erl_runs.specs.Specs.{type_term, type_kind_term}
-use Rattle.erl_runs.proofs.TypeTermLaws.{type_kind_term-Paren, type_kind_term-Or, type_kind_term-Range}
+use Rattle.flat_modules.specs.FlatSpecs.{type_term, type_kind_term}
+use Rattle.flat_modules.proofs.FlatTermLaws.{type_kind_term-Paren, type_kind_term-Or, type_kind_term-Range}
 use Rattle.flat_tests.specs.Names.{range_term, use_term}
 use Rattle.flat_tests.proofs.OneLevel.{term_of, type_kind_term-out}
 use Rattle.flat_tests.proofs.SpecTerms.{both_known, first_unknown}

@@ -1,7 +1,6 @@
 -- What is said of types and expressions by recursion, at one level: by the view of a kind that a `match` has.
 use Rattle.std.proofs.Common.{◌≡◌, refl, ap, ◌∙◌, List, [], ◌∷◌, ◌++◌, length, suc}
 use Rattle.std.specs.Prelude.{Option, Some, None, neg_ℤ}
-use Rattle.type_terms.specs.Keys.{Name}
 use Rattle.type_terms.specs.declared.term.Term.{Term, AtomLit, Or}
 use Rattle.erl_tree.specs.declared.token.Node.{Node}
 use Rattle.erl_tree.specs.declared.type_expr.TypeKind.{TypeKind, out-TypeKind, map-TypeKind, fold_out-TypeKind}
@@ -16,7 +15,8 @@ use Rattle.erl_tree.specs.declared.expr.AssocKind.{AssocKind}
 use Rattle.erl_tree.specs.declared.expr.CatchKind.{CatchKind}
 use Rattle.erl_tree.specs.declared.expr.ClauseKind.{ClauseKind}
 use Rattle.erl_tree.specs.Functions.{FunctionId, of_function}
-use Rattle.erl_runs.specs.Specs.{one_integer, and_then, type_term_layer, type_kind_term}
+use Rattle.erl_runs.specs.Specs.{one_integer, and_then}
+use Rattle.flat_modules.specs.FlatSpecs.{type_term_layer, type_kind_term}
 use Rattle.flat_modules.specs.FlatNames.{together, called_layer, called_in}
 use Rattle.flat_modules.proofs.FlatNameEquations.{all_called}
 use Rattle.flat_tests.specs.Names.{range_term, use_term}

@@ -1,5 +1,5 @@
--- Which specs have terms, and which functions these are for.
-use Rattle.std.proofs.Common.{◌≡◌, suc, Bool, true, false, List, [], ◌∷◌, map, length, ◌↔◌, refl, sym, ap, ◌∙◌, subst, Option, Some, None, is_some, true≢false}
+-- Which specs have terms.
+use Rattle.std.proofs.Common.{◌≡◌, Bool, true, false, List, [], ◌∷◌, map, ◌↔◌, refl, sym, ap, ◌∙◌, subst, Option, Some, None, true≢false}
 use Rattle.std.specs.Prelude.{IsSome, IsTrue}
 use Rattle.type_terms.specs.declared.spec.Arrow.{Arrow}
 use Rattle.type_terms.specs.declared.spec.FunSpec.{FunSpec}
@@ -8,8 +8,8 @@ use Rattle.erl_tree.specs.declared.type_expr.TypeKind.{TypeKind}
 use Rattle.erl_tree.specs.declared.form.SpecKind.{SpecKind}
 use Rattle.erl_tree.specs.declared.form.SpecClauseKind.{SpecClauseKind}
 use Rattle.erl_tree.specs.Lists.{Every}
-use Rattle.erl_runs.specs.Specs.{and_then, all_present, type_term, clause_arrow, arrows_arity, function_spec, spec_id, specified_id}
-use Rattle.erl_tree.specs.Functions.{of_function, spec_clauses_arity}
+use Rattle.erl_runs.specs.Specs.{and_then, all_present}
+use Rattle.flat_modules.specs.FlatSpecs.{type_term, clause_arrow, arrows_arity, function_spec}
 
 module _ {A B C : Type 0} where
   -- both are there
@@ -43,15 +43,6 @@ module _ {A B : Type 0} where
   some-one None g h = h
   some-one (Some a) g h = refl
 
-  pub record Chained (o : Option A) (g : A → Option B) (b : B) : Type 0 where
-    pub value : A
-    pub first : o ≡ Some value
-    pub second : g value ≡ Some b
-
-  pub chained : (o : Option A) (g : A → Option B) (b : B) → and_then o g ≡ Some b → Chained o g b
-  chained None g b h = absurd (true≢false (sym (ap is_some h)))
-  chained (Some a) g b h = record { value = a; first = refl; second = h }
-
   module _ (f : A → Option B) where
     pub all-some : (xs : List A) → Every (λ x. IsSome (f x)) xs → IsSome (all_present (map f xs))
     all-some [] h = refl
@@ -61,30 +52,6 @@ module _ {A B : Type 0} where
     some-all [] h = tt
     some-all (x ∷ xs) h =
         (first-some (f x) (all_present (map f xs)) (λ a more. a ∷ more) h, some-all xs (second-some (f x) (all_present (map f xs)) (λ a more. a ∷ more) h))
-
-    -- the values that are there
-    pub data Present : List A → List B → Type 0 where
-      nothing : Present [] []
-      one_more : (x : A) (y : B) (xs : List A) (ys : List B) → f x ≡ Some y → Present xs ys → Present (x ∷ xs) (y ∷ ys)
-
-pub some_injective : {A : Type 0} (x y : A) → Some x ≡ Some y → x ≡ y
-some_injective x y h = cc
-
-module _ {A B : Type 0} (f : A → Option B) where
-  pub present : (xs : List A) (ys : List B) → all_present (map f xs) ≡ Some ys → Present f xs ys
-  present [] ys h = subst (Present f []) (some_injective [] ys h) nothing
-  present (x ∷ xs) ys h =
-      let c = chained (f x) (λ a. and_then (all_present (map f xs)) (λ more. Some (a ∷ more))) ys h in
-      let d = chained (all_present (map f xs)) (λ more. Some (c.value ∷ more)) ys c.second in
-      subst (Present f (x ∷ xs)) (some_injective (c.value ∷ d.value) ys d.second) (one_more x c.value xs d.value c.first (present xs d.value d.first))
-
-  pub length-present : (xs : List A) (ys : List B) → Present f xs ys → length ys ≡ length xs
-  length-present _ _ nothing = refl
-  length-present _ _ (one_more x y xs ys e h) = ap suc (length-present xs ys h)
-
-  pub map-present : {C : Type 0} (g : B → C) (k : A → C) → ((x : A) (y : B) → f x ≡ Some y → g y ≡ k x) → (xs : List A) (ys : List B) → Present f xs ys → map g ys ≡ map k xs
-  map-present g k same _ _ nothing = refl
-  map-present g k same _ _ (one_more x y xs ys e h) = ap (λ c. c ∷ map g ys) (same x y e) ∙ ap (λ cs. k x ∷ cs) (map-present g k same xs ys h)
 
 -- ---- a clause
 
@@ -97,12 +64,6 @@ clause-params c h = some-all type_term c.kind.params (first-some {C = Arrow} (al
 pub clause-result : (c : Node SpecClauseKind) → IsSome (clause_arrow c) → IsSome (type_term c.kind.result)
 clause-result c h = second-some {C = Arrow} (all_present (map type_term c.kind.params)) (type_term c.kind.result) (λ params result. record { params = params; result = result }) h
 
-arrow-params : (c : Node SpecClauseKind) (a : Arrow) → clause_arrow c ≡ Some a → length a.params ≡ length c.kind.params
-arrow-params c a h =
-    let p = chained (all_present (map type_term c.kind.params)) (λ params. and_then (type_term c.kind.result) (λ result. Some (record { params = params; result = result }))) a h in
-    let r = chained (type_term c.kind.result) (λ result. Some (record { params = p.value; result = result })) a p.second in
-    ap (λ (x : Arrow). length x.params) (sym (some_injective _ _ r.second)) ∙ length-present type_term c.kind.params p.value (present type_term c.kind.params p.value p.first)
-
 -- ---- a spec
 
 pub spec-some : (s : Node SpecKind) → Every (λ c. IsSome (clause_arrow c)) s.kind.clauses → IsSome (function_spec s)
@@ -110,19 +71,6 @@ spec-some s h = one-some (all_present (map clause_arrow s.kind.clauses)) (λ arr
 
 pub some-spec : (s : Node SpecKind) → IsSome (function_spec s) → Every (λ c. IsSome (clause_arrow c)) s.kind.clauses
 some-spec s h = some-all clause_arrow s.kind.clauses (some-one {B = FunSpec} (all_present (map clause_arrow s.kind.clauses)) (λ arrows. record { name = s.kind.name; arity = arrows_arity arrows; vars = 0; clauses = arrows }) h)
-
-arity-present : (cs : List (Node SpecClauseKind)) (arrows : List Arrow) → Present clause_arrow cs arrows → arrows_arity arrows ≡ spec_clauses_arity cs
-arity-present _ _ nothing = refl
-arity-present _ _ (one_more c a cs more e h) = arrow-params c a e
-
--- the term of a spec is for the function that the spec is for
-pub same_id : (s : Node SpecKind) (f : FunSpec) → function_spec s ≡ Some f → spec_id f ≡ specified_id s
-same_id s f h =
-    let p = chained (all_present (map clause_arrow s.kind.clauses)) (λ arrows. Some (record { name = s.kind.name; arity = arrows_arity arrows; vars = 0; clauses = arrows })) f h in
-    ap spec_id (sym (some_injective _ _ p.second)) ∙ ap (of_function s.kind.name) (arity-present s.kind.clauses p.value (present clause_arrow s.kind.clauses p.value p.first))
-
-pub spec_ids : (ss : List (Node SpecKind)) (fs : List FunSpec) → all_present (map function_spec ss) ≡ Some fs → map spec_id fs ≡ map specified_id ss
-spec_ids ss fs h = map-present function_spec spec_id specified_id same_id ss fs (present function_spec ss fs h)
 
 -- ---- what the tests of a clause and of a spec answer
 

@@ -1,4 +1,4 @@
--- The functions that forms name, and what is right in one form.
+-- The functions that forms define, and what is right in one form.
 use Rattle.std.specs.Prelude.{List, [], ◌∷◌, ◌++◌, Option, Some, None, IsSome}
 use Rattle.type_terms.specs.Keys.{Name}
 use Rattle.type_terms.specs.declared.term.Term.{Term}
@@ -12,27 +12,25 @@ use Rattle.erl_tree.specs.declared.form.TreeForm.{TreeForm}
 use Rattle.erl_tree.specs.declared.form.TreeForm.TheVariants as F
 use Rattle.erl_tree.specs.Lists.{Every, Among, AreDistinct}
 use Rattle.erl_tree.specs.Functions.{FunctionId, function_id}
-use Rattle.erl_runs.specs.Specs.{and_then, end_of, range, built_in_type, function_spec, specified_id}
+use Rattle.erl_runs.specs.Specs.{and_then, range}
+use Rattle.flat_modules.specs.FlatSpecs.{end_of, built_in_type, function_spec}
 use Rattle.flat_modules.specs.FlatNames.{bound_by, bound_layer, called_in, called_item_layer, FunctionCallsOnly}
 use Rattle.flat_modules.specs.FlatModules.{HasDistinctHeads}
-use Rattle.flat_tests.specs.declared.function_names.Role.{Role}
-use Rattle.flat_tests.specs.declared.function_names.Role.TheVariants.{Definition, Specification}
 
 -- what an option holds, as a list
 abbrev pub listed : {A : Type 0} → Option A → List A
 listed None = []
 listed (Some a) = a ∷ []
 
--- the function that a form defines, or specifies
-abbrev pub named_by : Role → TreeForm → List FunctionId
-named_by Definition (F.Function f) = function_id f ∷ []
-named_by Specification (F.Spec s) = specified_id s ∷ []
-named_by _ _ = []
+-- the function that a form defines
+abbrev pub named_by : TreeForm → List FunctionId
+named_by (F.Function f) = function_id f ∷ []
+named_by _ = []
 
--- the functions that forms define, or specify
-abbrev pub names_in : Role → List TreeForm → List FunctionId
-names_in role [] = []
-names_in role (form ∷ forms) = named_by role form ++ names_in role forms
+-- the functions that forms define
+abbrev pub names_in : List TreeForm → List FunctionId
+names_in [] = []
+names_in (form ∷ forms) = named_by form ++ names_in forms
 
 -- the term of a type with a prefix, a name and arguments
 abbrev pub use_term : Option Name → Name → List (Node TypeKind) → Option Term
@@ -66,8 +64,7 @@ abbrev pub FormCallsOnly : List FunctionId → TreeForm → Type 0
 FormCallsOnly ids (F.Function f) = FunctionCallsOnly ids f
 FormCallsOnly ids _ = Unit {0}
 
--- each function is defined once and specified once, and each call is of one that is defined
+-- each function is defined once, and each call is of one that is defined
 pub record HasMatchingNames (forms : List TreeForm) : Type 0 where
-  pub defined_once : AreDistinct (names_in Definition forms)
-  pub specified_once : AreDistinct (names_in Specification forms)
-  pub calls_defined : Every (FormCallsOnly (names_in Definition forms)) forms
+  pub defined_once : AreDistinct (names_in forms)
+  pub calls_defined : Every (FormCallsOnly (names_in forms)) forms

@@ -1,4 +1,4 @@
-//! The functions that forms define and specify.
+//! The functions that forms define.
 
 ghost use Rattle.std.specs.Prelude.{◌≡◌, ◌↔◌, ◌++◌, IsTrue, IfOk, MatchOption};
 ghost use Rattle.std.specs.Option.{option_map};
@@ -14,58 +14,36 @@ use function_table::FunctionTable;
 use std::alloc::Global;
 use type_terms::{NoMemory, Text};
 
-/// How a form names a function.
-#[derive(Clone, Copy)]
-enum Role {
-    Definition,
-    Specification,
-}
-
-/// The function that a form defines, or specifies.
-fn named_by(form: &TreeForm, role: Role) -> Option<(&Text, usize)>
-    ensures { names.named_by role form.now ≡ listed (option_map (λ x. of_function x.0.now x.1) result) }
+/// The function that a form defines.
+fn named_by(form: &TreeForm) -> Option<(&Text, usize)>
+    ensures { names.named_by form.now ≡ listed (option_map (λ x. of_function x.0.now x.1) result) }
 {
-    match (role, form) {
-        (Role::Definition, TreeForm::Function(function)) => {
-            Some((&function.name, function.arity()))
-        }
-        (Role::Specification, TreeForm::Spec(spec)) => {
-            let spec = spec.kind.get();
-            Some((&spec.name, spec.arity()))
-        }
+    match form {
+        TreeForm::Function(function) => Some((&function.name, function.arity())),
         _ => None,
     }
 }
 
-/// Adds the function that a form names, unless it is there. Gives whether the functions stay
+/// Adds the function that a form defines, unless it is there. Gives whether the functions stay
 /// distinct.
-fn add_name(
-    alloc: Global,
-    table: &mut FunctionTable,
-    form: &TreeForm,
-    role: Role,
-) -> Result<bool, NoMemory>
+fn add_name(alloc: Global, table: &mut FunctionTable, form: &TreeForm) -> Result<bool, NoMemory>
     requires { AreDistinct (ids table.old) }
-    ensures distinct { IfOk result (λ added. IsTrue added ↔ AreDistinct (ids table.old ++ names.named_by role form.now)) }
-    ensures added { IfOk result (λ added. IsTrue added → ids table.new ≡ ids table.old ++ names.named_by role form.now) }
+    ensures distinct { IfOk result (λ added. IsTrue added ↔ AreDistinct (ids table.old ++ names.named_by form.now)) }
+    ensures added { IfOk result (λ added. IsTrue added → ids table.new ≡ ids table.old ++ names.named_by form.now) }
 {
-    match named_by(form, role) {
+    match named_by(form) {
         None => Ok(true),
         Some((name, arity)) => table.insert(alloc, name, arity, 0),
     }
 }
 
-/// The table of the functions that forms define, or specify. `None` where one comes twice.
-fn table_of(
-    alloc: Global,
-    forms: &[TreeForm],
-    role: Role,
-) -> Result<Option<FunctionTable>, NoMemory>
-    ensures { IfOk result (λ found. MatchOption found (AreDistinct (names_in role forms.now) → ⊥) (λ table. (ids table ≡ names_in role forms.now) × AreDistinct (ids table))) }
+/// The table of the functions that forms define. `None` where one comes twice.
+fn table_of(alloc: Global, forms: &[TreeForm]) -> Result<Option<FunctionTable>, NoMemory>
+    ensures { IfOk result (λ found. MatchOption found (AreDistinct (names_in forms.now) → ⊥) (λ table. (ids table ≡ names_in forms.now) × AreDistinct (ids table))) }
 {
     let mut table = FunctionTable::new(alloc);
     for form in forms {
-        let added = add_name(alloc, &mut table, form, role)?;
+        let added = add_name(alloc, &mut table, form)?;
         if !added {
             return Ok(None);
         }
@@ -73,14 +51,11 @@ fn table_of(
     Ok(Some(table))
 }
 
-/// Whether each function is defined once and specified once, and each call is of one that is defined.
+/// Whether each function is defined once, and each call is of one that is defined.
 pub fn has_matching_names(alloc: Global, forms: &[TreeForm]) -> Result<bool, NoMemory>
     ensures { IfOk result (λ answer. IsTrue answer ↔ HasMatchingNames forms.now) }
 {
-    let Some(definitions) = table_of(alloc, forms, Role::Definition)? else {
-        return Ok(false);
-    };
-    let Some(_specs) = table_of(alloc, forms, Role::Specification)? else {
+    let Some(definitions) = table_of(alloc, forms)? else {
         return Ok(false);
     };
     forms_call_only_defined(alloc, &definitions, forms)

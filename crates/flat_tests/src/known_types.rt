@@ -2,7 +2,7 @@
 
 ghost use Rattle.std.specs.Prelude.{◌≡◌, ◌↔◌, IsTrue, IsSome, is_some};
 ghost use Rattle.erl_tree.specs.Lists.{Every};
-ghost use Rattle.erl_runs.specs.Specs.{type_term, built_in_type, clause_arrow, function_spec};
+ghost use Rattle.flat_modules.specs.FlatSpecs.{type_term, built_in_type, clause_arrow, function_spec};
 ghost use Rattle.flat_tests.specs.Names.{range_term, use_term};
 
 use built_ins::is_text;

@@ -1,9 +1,7 @@
 -- When a text is safe: the claim that an accepted text keeps.
 use Rattle.std.specs.Prelude.{◌≡◌, ℕ, List}
-use Rattle.type_terms.specs.Definitions.{given_definitions}
 use Rattle.erl_tree.specs.declared.form.Module.{Module}
 use Rattle.erl_grammar.specs.Texts.{SpellsModule}
-use Rattle.erl_runs.specs.Specs.{specs_of}
 use Rattle.erl_runs.specs.Safety.{IsSafe}
 use Rattle.readable_modules.specs.Readable.{IsReadable}
 
@@ -13,4 +11,4 @@ pub record IsSafeText (bytes : List ℕ) : Type 0 where
   pub spelled : SpellsModule bytes tree
   pub only : (other : Module) → SpellsModule bytes other → other ≡ tree
   pub readable : IsReadable tree
-  pub safe : IsSafe tree (specs_of tree) given_definitions
+  pub safe : IsSafe tree readable.specs.functions readable.specs.defs

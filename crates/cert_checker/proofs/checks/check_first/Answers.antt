@@ -3,9 +3,9 @@ use Rattle.std.proofs.lemmas.Result.{err_from_is_err_and}
 use Rattle.erl_tree.specs.declared.form.TreeForm.{TreeForm}
 use Rattle.erl_tree.specs.Lists.{Every}
 use Rattle.erl_tree.specs.Functions.{functions_in}
-use Rattle.erl_runs.specs.Specs.{specs_of}
+use Rattle.flat_modules.specs.FlatSpecs.{specs_of}
 use Rattle.cert_checker.specs.Constraints.{Holds, owed_by_functions, owed_of}
-use Rattle.cert_checker.proofs.Safe.{meets-safe}
+use Rattle.cert_checker.proofs.Safe.{specs-safe}
 use Rattle.cert_checker.proofs.Takes.{item-found, take-all}
 use Rattle.cert_checker.proofs.Sequences.{function-count, holds-step, next-count, fails-step}
 use Rattle.cert_checker.proofs.ModuleForms.{module-flat}
@@ -13,13 +13,13 @@ use Rattle.cert_checker.proofs.ModuleChecks.{table-holds}
 use Rattle.cert_checker.proofs.checks.check_first.Goals as goal
 
 pub spec_table-requires : goal.spec_table-requires
-spec_table-requires c = module-flat c.args.module.now c.requires
+spec_table-requires c = module-flat c.args.module.now c.requires.flat
 
 pub loop-form-init : goal.loop-form-init
 loop-form-init c = record { holds = λ fits finds. tt; count = refl }
 
 pub check_form-requires-clause-table : goal.check_form-requires-clause-table
-check_form-requires-clause-table c = table-holds c.args.module.now c.in_ok-table.table c.requires c.in_ok-table.ensures.places c.in_ok-table.ensures.types
+check_form-requires-clause-table c = table-holds c.args.module.now c.in_ok-table.table c.requires.flat c.in_ok-table.ensures.places c.in_ok-table.ensures.types
 
 pub check_form-requires-clause-form : goal.check_form-requires-clause-form
 check_form-requires-clause-form c = (c.loop-form.form-index, item-found c.as_slice-form-items.result.now c.args.module.now.forms c.loop-form.form-index c.form-item.result c.as_slice-form-items.ensures c.loop-form-test.true c.form-item.is)
@@ -52,4 +52,4 @@ returns-clause-holds c fits finds =
     subst (λ (z : List TreeForm). Every Holds (owed_by_functions fits 0 (functions_in z) (specs_of c.args.module.now))) t (c.loop-form.invariant.holds fits finds)
 
 pub returns-clause-safe : goal.returns-clause-safe
-returns-clause-safe c = meets-safe c.args.module.now c.requires (returns-clause-holds c)
+returns-clause-safe c = specs-safe c.args.module.now c.requires.flat c.args.specs.now c.requires.specs (returns-clause-holds c)

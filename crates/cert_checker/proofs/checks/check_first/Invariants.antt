@@ -1,7 +1,7 @@
 use Rattle.std.proofs.Common.{◌≡◌, length, take}
 use Rattle.erl_tree.specs.Lists.{Every}
 use Rattle.erl_tree.specs.Functions.{functions_in}
-use Rattle.erl_runs.specs.Specs.{specs_of}
+use Rattle.flat_modules.specs.FlatSpecs.{specs_of}
 use Rattle.cert_checker.specs.Constraints.{Test, FindsFits, Holds, owed_by_functions}
 use Rattle.cert_checker.proofs.checks.check_first.Given as goal
 

@@ -1,6 +1,7 @@
 use Rattle.std.proofs.Common.{◌≡◌, ◌∙◌, ap, length, arith}
 use Rattle.std.specs.Prelude.{Some, slice_get, map}
-use Rattle.erl_runs.specs.Specs.{type_term, all_present}
+use Rattle.erl_runs.specs.Specs.{all_present}
+use Rattle.flat_modules.specs.FlatSpecs.{type_term}
 use Rattle.cert_checker.specs.FlatTypes.{IsFlatType}
 use Rattle.cert_checker.proofs.Lists.{some-inj}
 use Rattle.cert_checker.proofs.Takes.{item-found, take-all, every-get}

@@ -1,7 +1,8 @@
 use Rattle.std.proofs.Common.{◌≡◌, List, take}
 use Rattle.std.specs.Prelude.{Some, map}
 use Rattle.type_terms.specs.declared.term.Term.{Term}
-use Rattle.erl_runs.specs.Specs.{type_term, all_present}
+use Rattle.erl_runs.specs.Specs.{all_present}
+use Rattle.flat_modules.specs.FlatSpecs.{type_term}
 use Rattle.cert_checker.specs.FlatTypes.{AreSetsOf}
 use Rattle.cert_checker.proofs.spec_table.sets_of_types.Given as goal
 

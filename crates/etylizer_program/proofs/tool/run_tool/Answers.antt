@@ -1,7 +1,7 @@
 use Rattle.std.proofs.Common.{arith, string_bytes, map, sym}
 use Rattle.etylizer_program.proofs.Said.{check_said}
 use Rattle.etylizer_program.proofs.Accepts.{accepts_safe_text, judges, breaks_off}
-use Rattle.etylizer_program.proofs.Completes.{completes, refuses, refuses_names, not_yet, is_command}
+use Rattle.etylizer_program.proofs.Completes.{completes, refuses, refuses_names, refuses_specs, not_yet, is_command}
 use Rattle.etylizer_program.proofs.tool.run_tool.Goals as goal
 
 pub returns-in-Some-Check-clause-accepted : goal.returns-in-Some-Check-clause-accepted
@@ -70,3 +70,14 @@ returns-in-Some-Check-clause-wrong_names g c = λ fault wrong files_steady sink_
 
 pub returns-in-None-clause-wrong_names : goal.returns-in-None-clause-wrong_names
 returns-in-None-clause-wrong_names g c = λ fault wrong files_steady sink_steady. absurd (is_command (map string_bytes c.args.words.now.items) (g.F.Files.held c.args.files.now) wrong.text wrong.named (sym c.in-None.ensures))
+
+pub returns-in-Some-Check-clause-wrong_specs : goal.returns-in-Some-Check-clause-wrong_specs
+returns-in-Some-Check-clause-wrong_specs g c = λ fault wrong files_steady sink_steady.
+    refuses_specs c.check_file.result (map string_bytes c.args.words.now.items) (g.F.Files.held c.args.files.now) (g.O.Sink.written c.args.out.now) (g.O.Sink.written c.check_file.new.out) fault wrong
+    c.check_file.ensures.status (λ e. files_steady (c.check_file.ensures.read_fault e)) (λ e. sink_steady (c.check_file.ensures.write_fault e)) c.check_file.ensures.no_usage
+    (λ small not_usage. judges (map string_bytes c.args.words.now.items) c.as_bytes.result.now
+    (check_said string_bytes c.args.words.now.items c.index.result.now c.as_bytes.result.now c.in-Some-Check.field-0 c.index.ensures c.as_bytes.ensures.value c.in-Some-Check.ensures)
+    (c.check_file.ensures.judged small))
+
+pub returns-in-None-clause-wrong_specs : goal.returns-in-None-clause-wrong_specs
+returns-in-None-clause-wrong_specs g c = λ fault wrong files_steady sink_steady. absurd (is_command (map string_bytes c.args.words.now.items) (g.F.Files.held c.args.files.now) wrong.text wrong.named (sym c.in-None.ensures))

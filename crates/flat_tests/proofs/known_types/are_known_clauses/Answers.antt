@@ -1,6 +1,6 @@
 use Rattle.std.proofs.Common.{arith}
 use Rattle.std.specs.Prelude.{IsSome}
-use Rattle.erl_runs.specs.Specs.{clause_arrow}
+use Rattle.flat_modules.specs.FlatSpecs.{clause_arrow}
 use Rattle.flat_tests.proofs.ForEach.{left_first, left_next, unmet, met}
 use Rattle.flat_tests.proofs.known_types.are_known_clauses.Goals as goal
 

@@ -1,6 +1,6 @@
 use Rattle.std.proofs.Common.{arith}
 use Rattle.std.specs.Prelude.{IsSome}
-use Rattle.erl_runs.specs.Specs.{type_term}
+use Rattle.flat_modules.specs.FlatSpecs.{type_term}
 use Rattle.flat_tests.proofs.ForEach.{left_first, left_next, unmet, met}
 use Rattle.flat_tests.proofs.known_types.are_known_types.Goals as goal
 

@@ -1,5 +1,5 @@
 use Rattle.std.specs.Prelude.{IsSome}
-use Rattle.erl_runs.specs.Specs.{type_term}
+use Rattle.flat_modules.specs.FlatSpecs.{type_term}
 use Rattle.flat_tests.proofs.ForEach.{IsLeft}
 use Rattle.flat_tests.proofs.known_types.are_known_types.Given as goal
 

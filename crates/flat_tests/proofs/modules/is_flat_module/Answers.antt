@@ -12,7 +12,7 @@ returns-then-not-are_right_forms-clause-complete c =
 pub returns-clause-sound : goal.returns-clause-sound
 returns-clause-sound c =
     sound c.args.module.now c.as_slice-forms.result.now c.as_slice-forms.ensures c.are_right_forms.result c.are_right_forms.ensures c.has_matching_names.result c.has_matching_names.ensures
-    c.requires.well_formed c.requires.within c.requires.in_limit c.requires.right_names (sym c.is_flat.ensures ∙ c.if-not-is_flat.false) c.if-not-are_right_forms.false
+    c.requires.well_formed c.requires.within c.requires.in_limit c.requires.readable (sym c.is_flat.ensures ∙ c.if-not-is_flat.false) c.if-not-are_right_forms.false
 
 pub returns-clause-complete : goal.returns-clause-complete
 returns-clause-complete c =

@@ -1,7 +1,0 @@
-use Rattle.std.proofs.Common.{◌≡◌, take}
-use Rattle.std.specs.Option.{option_copied}
-use Rattle.etylizer_program.specs.Memory.{held_in}
-use Rattle.etylizer_program.proofs.outside.held.Held.bytes_of.Given as goal
-
-abbrev pub invariant-loop-held_name : goal.invariant-loop-held_name
-invariant-loop-held_name l = option_copied l.found ≡ held_in (take l.held_name-index l.pairs) l.name

@@ -1,5 +1,0 @@
-use Rattle.std.proofs.Common.{length, ◌-◌}
-use Rattle.etylizer_program.proofs.outside.system.read_file.Given as goal
-
-abbrev pub decreases-reading : goal.decreases-reading
-decreases-reading l = l.wanted - length l.bytes

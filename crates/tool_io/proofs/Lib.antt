@@ -1,0 +1,2 @@
+pub mod HeldPairs
+pub mod Written
