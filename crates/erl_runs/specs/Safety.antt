@@ -1,4 +1,4 @@
--- When a module is safe. It is said of every module, and runs (`Running`) are those of every form. Only the terms of specs (`Specs`) are written for flat modules so far.
+-- When a module is safe. It is said of every module, and runs (`Running`) are those of every form. The specs and the definitions are given; which a module has, the rules of types say.
 use Rattle.std.specs.Prelude.{◌≡◌, ℕ, List}
 use Rattle.std.specs.List.{Contains}
 use Rattle.type_terms.specs.declared.term.Def.{Def}

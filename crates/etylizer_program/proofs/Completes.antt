@@ -4,16 +4,14 @@ use Rattle.erl_tree.specs.Lists.{Every, Among}
 use Rattle.erl_tree.specs.declared.form.Module.{Module}
 use Rattle.erl_tree.specs.declared.token.Placed.{Placed}
 use Rattle.erl_grammar.specs.FormSpelling.{module_tokens}
-use Rattle.erl_grammar.specs.FormGrammar.{IsModule}
 use Rattle.erl_grammar.specs.Nesting.{nesting_limit}
-use Rattle.erl_grammar.specs.FormNesting.{IsModuleWithin, module_deep}
+use Rattle.erl_grammar.specs.FormNesting.{module_deep}
 use Rattle.scope_rules.specs.declared.fault.NameFault.TheVariants as N
 use Rattle.scope_rules.specs.declared.fault.PlacedFault.{PlacedFault}
 use Rattle.scope_rules.specs.ScopeFaults.{faults_of, HasRightNames, IsFirstFault as IsFirstNameFault}
 use Rattle.type_rules.specs.declared.fault.TypeFault.TheVariants as T
 use Rattle.type_rules.specs.declared.fault.PlacedFault.{PlacedFault as TypePlacedFault}
-use Rattle.type_rules.specs.declared.specs.Specs.{Specs}
-use Rattle.type_rules.specs.TypeFaults.{HasSpecs, IsFirstFault as IsFirstSpecFault, fault_at, outside_words}
+use Rattle.type_rules.specs.TypeFaults.{IsFirstFault as IsFirstSpecFault, fault_at}
 use Rattle.type_laws.proofs.FirstFault.{one-first, no-first}
 use Rattle.typespecs.specs.FaultPlaces.{placed_fault as placed_spec_fault}
 use Rattle.readable_modules.specs.Readable.{IsReadable}

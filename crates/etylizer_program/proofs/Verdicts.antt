@@ -1,5 +1,5 @@
 -- From what is said of a module to what is said of its text.
-use Rattle.std.proofs.Common.{◌≡◌, ◌∙◌, ◌<◌, ℕ, List, length, Option, Some, Result, Ok, Err, IfOk, IsErrOf, true, refl, subst, sym}
+use Rattle.std.proofs.Common.{◌≡◌, ◌∙◌, ◌<◌, ℕ, List, length, Some, Result, Ok, Err, IfOk, IsErrOf, true, refl, subst, sym}
 use Rattle.type_terms.specs.declared.list.NoMemory.{NoMemory}
 use Rattle.erl_tree.specs.declared.form.Module.{Module}
 use Rattle.erl_tree.specs.declared.token.Place.{Place}
@@ -9,9 +9,7 @@ use Rattle.erl_runs.specs.Specs.{specs_in}
 use Rattle.type_rules.specs.declared.specs.Specs.{Specs}
 use Rattle.type_rules.specs.SpecTerms.{module_specs}
 use Rattle.erl_tree.specs.declared.token.Placed.{Placed}
-use Rattle.erl_tree.specs.Lexis.{SpellsTokens}
-use Rattle.erl_tree.specs.Limits.{IsInLimit}
-use Rattle.erl_tree.specs.Lists.{Every, Among}
+use Rattle.erl_tree.specs.Lists.{Among}
 use Rattle.erl_grammar.specs.FormSpelling.{module_tokens}
 use Rattle.erl_grammar.specs.FormGrammar.{IsModule}
 use Rattle.erl_grammar.specs.FormNesting.{IsModuleWithin, module_deep}

@@ -180,7 +180,7 @@ pub record IsSummary (m : Module) (name : List ℕ) (functions clauses : ℕ) : 
   pub functions_counted : functions ≡ function_count m
   pub clauses_counted : clauses ≡ spec_clause_count m
 
--- the module's constraints hold, it is safe by its specs, and this is its summary
+-- the module's constraints hold, it is safe by the specs that its text gives, if it gives some, and this is its summary
 pub record IsAcceptedModule (m : Module) (name : List ℕ) (functions clauses : ℕ) : Type 0 where
   pub meets : MeetsConstraints m
   pub safe : (s : Specs) → module_specs m ≡ Some s → IsSafe m s.functions s.defs

@@ -1,9 +1,5 @@
-ghost use Rattle.std.specs.Prelude.{◌≡◌, ◌⊎◌, ◌<◌, ◌≤◌, ◌↔◌, Some, length, IfOk, IfErr, IsOk, IsErrOf, IsTrue};
+ghost use Rattle.std.specs.Prelude.{◌≡◌, ◌⊎◌, ◌<◌, ◌≤◌, ◌↔◌, Some, length, IfOk, IfErr, IsOk, IsErrOf};
 ghost use Rattle.erl_tree.specs.Profile.{IsLexed};
-ghost use Rattle.erl_grammar.specs.FormGrammar.{IsModule};
-ghost use Rattle.erl_grammar.specs.FormNesting.{IsModuleWithin};
-ghost use Rattle.erl_grammar.specs.Nesting.{nesting_limit};
-ghost use Rattle.erl_grammar.specs.Texts.{HasIntegersInLimit};
 ghost use Rattle.scope_rules.specs.ScopeFaults.{HasRightNames};
 ghost use Rattle.type_rules.specs.SpecTerms.{module_specs};
 ghost use Rattle.type_rules.specs.TypeFaults.{HasSpecs};
@@ -49,9 +45,9 @@ pub enum Refused {
     Parse(ParseFault),
     /// The names of its module are used wrongly.
     Scope(ScopeFault),
-    /// Something is wrong with the types, records or specs of its module.
+    /// The names of its module are right, and something is wrong with its types, records or specs.
     Spec(SpecFault),
-    /// Its module isn't flat.
+    /// Its module is readable and isn't flat.
     NotBuilt,
     /// A constraint of its module fails.
     Types(FirstRefusal),

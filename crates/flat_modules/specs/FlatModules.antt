@@ -1,4 +1,4 @@
--- The modules that are checked so far: flat modules in which names are used rightly.
+-- The modules that are checked so far: flat modules in which names, types and specs are used rightly.
 use Rattle.std.specs.Prelude.{◌≡◌, true}
 use Rattle.erl_tree.specs.Lists.{Every, AreDistinct}
 use Rattle.erl_tree.specs.declared.token.Node.{Node}

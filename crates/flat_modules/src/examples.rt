@@ -30,8 +30,8 @@ pub fn a_call_outside_of_the_profile()
     ensures test { is_flat module_with_call ≡ true }
 {}
 
-/// `-module(a).` is a flat module in which names are used rightly. `-module(m). f()->1+2.` is none, since
-/// f has no spec.
+/// `-module(a).` is a flat module in which names, types and specs are used rightly. `-module(m). f()->1+2.`
+/// is none, since f has no spec.
 pub fn each_function_has_a_spec()
     ensures no_functions { IsFlatModule small_module }
     ensures no_spec { IsFlatModule module_with_sum → ⊥ }

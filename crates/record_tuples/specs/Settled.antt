@@ -40,7 +40,7 @@ abbrev pub IsNotedAt : Name → Option RecordTuple → (old new : Name → Optio
 IsNotedAt name Nothing old new = (x : Name) → new x ≡ old x
 IsNotedAt name (Some t) old new = (x : Name) → new x ≡ cond (same_name name x) (Some t) (old x)
 
--- so many records at the front of a list are settled
+-- each of these records that has a number is settled
 abbrev pub AreSettled : Declarations → List Bool → List RecDefKind → Type 0
 AreSettled d settled records = (r : RecDefKind) → Among r records → (n : ℕ) → record_number d r.name ≡ Some n → get_or settled n false ≡ true
 

@@ -207,7 +207,7 @@ fn graph_of(source: &Source<'_>) -> Result<Vec<List<u32>>, NoMemory> {
 ///
 /// # Errors
 ///
-/// `NoMemory` where memory runs out.
+/// `NoMemory` where memory runs out. It would also come where the order left a record out, which it doesn't; that isn't proved.
 pub fn record_tuples(
     alloc: Global,
     module: &Module,
@@ -226,7 +226,7 @@ pub fn record_tuples(
     let graph = graph_of(&source)?;
     let order = post_order(alloc, &graph)?;
     let so_far = settle_in_order(&source, order.as_slice())?;
-    // Each record stands in the order behind those that are expanded in its types, so all are settled.
+    // Each record stands in the order behind those that are expanded in its types, so all are settled; what isn't would be refused.
     if are_all_settled(&source, so_far.settled.as_slice())? {
         Ok(so_far.tuples)
     } else {

@@ -36,6 +36,6 @@ inside_records forms = map (λ r. inside (of_record r)) (records_in forms)
 abbrev pub inside_all : Declarations → List Inner
 inside_all declared = map inside (by_number declared)
 
--- the irregular uses in declarations, which have these numbers
+-- the irregular uses in declarations, each of which has the number of its place
 abbrev pub IsIrregularIn : Declarations → List Inner → PlacedFault → Type 0
 IsIrregularIn declared ds f = (n : ℕ) × (d : Inner) × (slice_get ds n ≡ Some d) × OfSome (IsIrregularUse declared n d.0) d.1 f

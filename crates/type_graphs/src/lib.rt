@@ -1,5 +1,5 @@
-//! Mentions that lead back: bounds of specs that lead back to one of their variables, and uses of types and records inside their
-//! own declarations that aren't regular. The first of these faults.
+//! Mentions that lead back: bounds of specs that lead back to one of their variables, and uses that lead back to the type or record
+//! in whose declaration they stand and aren't regular. The first of these faults.
 #![tactic(auto)]
 
 mod bounds;

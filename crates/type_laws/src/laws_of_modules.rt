@@ -11,7 +11,7 @@ ghost use Rattle.type_rules.specs.declared.specs.Specs.{Specs};
 ghost use Rattle.type_rules.specs.SpecTerms.{module_specs};
 ghost use Rattle.type_rules.specs.TypeFaults.{IsTextFault, IsFirstFault, HasTerms, HasSpecs, name_places, spec_clauses, arrows_of};
 
-/// The two definitions that are given reach no definition at all, so not themselves.
+/// Neither of the two definitions that are given reaches itself.
 pub fn given_definitions_reach_nothing()
     ensures { (m : Module) (s : Specs) → module_specs m ≡ Some s → (n : ℕ) → n < 2 → Reaches s.defs n n → ⊥ }
 {}
@@ -42,12 +42,12 @@ pub fn specs_are_regular()
     ensures { (m : Module) (s : Specs) → HasTerms m s → AreRegular s.defs }
 {}
 
-/// Each definition of a module, but the two that are given, is that of a name in its text.
+/// There are as many definitions, but for the two that are given, as names of types and records in the text.
 pub fn each_definition_has_a_place()
     ensures { (m : Module) (s : Specs) → module_specs m ≡ Some s → length s.defs ≡ 2 + length (name_places m) }
 {}
 
-/// Each arrow of a module's specs is that of a clause in its text.
+/// There are as many arrows as clauses of specs in the text.
 pub fn each_arrow_has_a_clause()
     ensures { (m : Module) (s : Specs) → module_specs m ≡ Some s → length (arrows_of s) ≡ length (spec_clauses m) }
 {}

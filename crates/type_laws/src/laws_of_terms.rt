@@ -1,4 +1,5 @@
-//! Laws of terms: what records and variables stand for, by their parts, and that there are terms where no fault is.
+//! Laws of terms: what records and variables stand for, by their parts, and that there are definitions and arrows where no fault
+//! is.
 
 ghost use Rattle.std.specs.Prelude.{◌≡◌, Option, true, is_some};
 ghost use Rattle.type_terms.specs.Keys.{Name};
@@ -29,7 +30,7 @@ pub fn what_a_variable_stands_for()
         stands_for declared c variables x ≡ bounded_term declared c variables (stands_for declared c variables) x (bound_of c.bounds x) }
 {}
 
-/// A module in whose text nothing is wrong has specs: each type expression has a term.
-pub fn no_fault_has_specs()
+/// A module in whose text nothing is wrong gives definitions and arrows.
+pub fn no_fault_has_terms()
     ensures { (m : Module) → ((f : PlacedFault) → IsTextFault m f → ⊥) → is_some (module_specs m) ≡ true }
 {}

@@ -38,7 +38,7 @@ pub enum TypeFault {
     OutOfProfile(Outside),
     /// A clause of a spec has another number of parameters than the first one.
     ArityDiffers,
-    /// The lower end of a range is above the upper one.
+    /// The lower end of a range is above the upper one, or an end is no integer (which no text spells).
     BadRange,
 }
 
