@@ -1,0 +1,5 @@
+pub mod FirstFaults
+pub mod SingleTypes
+pub mod ReadableModules
+pub mod FlatExamples
+pub mod FiniteInstances

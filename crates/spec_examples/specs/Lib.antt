@@ -1,0 +1,2 @@
+pub mod SmallFaults
+pub mod SmallFunctions

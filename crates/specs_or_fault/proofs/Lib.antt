@@ -1,0 +1,4 @@
+mod EarliestFault
+mod LeastDefinition
+mod FirstArrow
+mod SpecsOrFault

@@ -1,0 +1,3 @@
+pub mod SharedNames
+pub mod MadeTerms
+pub mod MadeArrows
