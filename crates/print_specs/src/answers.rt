@@ -4,22 +4,22 @@ use crate::definitions::push_specs;
 use crate::faults::push_fault;
 use erl_lexer::{LexFault, lex};
 use erl_parser::{ParseFault, parse};
-use erl_tree::{Module, Place};
+use erl_tree::{Module, Place, Placed};
 use std::alloc::{AllocError, Global};
 use std::error::Error;
 use std::fmt;
-use type_terms::NoMemory;
+use type_terms::{List, NoMemory};
 use typespecs::read_specs;
 
 /// Why a row has no answer.
 #[derive(Clone, Copy, Debug, PartialEq, Eq)]
 pub(crate) enum RowFault {
     NoMemory,
-    /// The text is no module: it has 2 ^ 32 - 1 bytes or more, or isn't UTF-8.
+    /// The text is no module or type: it has 2 ^ 32 - 1 bytes or more, or isn't UTF-8.
     NoText,
-    /// The text is no module: what stands there is no token of one.
+    /// The text is no module or type: what stands there is no token of one.
     NoTokens(Place),
-    /// The text is no module: what stands there fits nowhere.
+    /// The text is no module or type: what stands there fits nowhere.
     NoModule(Place),
 }
 
@@ -27,9 +27,13 @@ impl fmt::Display for RowFault {
     fn fmt<W: fmt::Write>(&self, f: &mut fmt::Formatter<W>) -> fmt::Result {
         match self {
             RowFault::NoMemory => write!(f, "out of memory"),
-            RowFault::NoText => write!(f, "no text of a module"),
+            RowFault::NoText => write!(f, "no text of a module or a type"),
             RowFault::NoTokens(place) => write!(f, "no token at {}:{}", place.line, place.column),
-            RowFault::NoModule(place) => write!(f, "no module at {}:{}", place.line, place.column),
+            RowFault::NoModule(place) => write!(
+                f,
+                "no module or type at {}:{}",
+                place.line, place.column
+            ),
         }
     }
 }
@@ -72,17 +76,30 @@ impl From<ParseFault> for RowFault {
     }
 }
 
-/// The module of a row's forms.
-fn module_of(alloc: Global, row: &str) -> Result<Module, RowFault> {
-    let mut text = String::new(alloc);
-    text.push_str("-module(a).\n")?;
-    text.push_str(row)?;
-    text.push('\n')?;
+/// The tokens of a text.
+///
+/// # Errors
+///
+/// Why the text has none; `NoMemory` where memory runs out.
+pub(crate) fn tokens_of(alloc: Global, text: &str) -> Result<List<Placed>, RowFault> {
     let bytes = text.as_bytes();
     if bytes.len() >= u32::MAX as usize {
         return Err(RowFault::NoText);
     }
-    let tokens = lex(alloc, bytes)?;
+    Ok(lex(alloc, bytes)?)
+}
+
+/// The module of a row's forms.
+///
+/// # Errors
+///
+/// Why the forms are no module; `NoMemory` where memory runs out.
+pub(crate) fn module_of(alloc: Global, row: &str) -> Result<Module, RowFault> {
+    let mut text = String::new(alloc);
+    text.push_str("-module(a).\n")?;
+    text.push_str(row)?;
+    text.push('\n')?;
+    let tokens = tokens_of(alloc, &text)?;
     Ok(parse(alloc, &tokens)?)
 }
 

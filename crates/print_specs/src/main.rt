@@ -16,6 +16,12 @@
 //! - `LINE:COLUMN: WORDS`: the fault, and its place.
 //! - `nothing`, where a module declares and specifies nothing.
 //!
+//! A row of types that stand alone has the forms of a module and, behind `? `, types in lines of their
+//! own, which are read one after the other with the types and records of the module and with the same
+//! variables. Each gets its term, or its fault with the place in its own line, where `? ` doesn't count.
+//! The last line, `names NAME..`, has the variables by their numbers. Where the forms have a fault, it is
+//! the whole answer.
+//!
 //! # Terms
 //!
 //! `any`, `none`, `int LOW HIGH` (`*` where it is open), `atom A`, `atoms`, `nil`, `cons T T`,
@@ -34,22 +40,46 @@ mod answers;
 mod definitions;
 mod faults;
 mod rows;
+mod single;
 mod terms;
 
 use anyhow::{Context, Result};
 use std::alloc::Global;
 use std::io::{self, BufWriter, Write};
 
-/// The rows of a topic, each with its answer, behind a heading.
-fn write_topic<W: Write>(alloc: Global, out: &mut W, heading: &str, rows: &str) -> Result<()> {
+/// A heading.
+fn write_heading<W: Write>(out: &mut W, heading: &str) -> Result<()> {
     out.write_all(b"# ")?;
     out.write_all(heading.as_bytes())?;
     out.write_all(b"\n")?;
+    Ok(())
+}
+
+/// A row with its answer.
+fn write_row<W: Write>(out: &mut W, row: &str, answer: &[u8]) -> Result<()> {
+    out.write_all(row.as_bytes())?;
+    out.write_all(b"\n")?;
+    out.write_all(answer)?;
+    Ok(())
+}
+
+/// The rows of a topic, each with its answer, behind a heading.
+fn write_topic<W: Write>(alloc: Global, out: &mut W, heading: &str, rows: &str) -> Result<()> {
+    write_heading(out, heading)?;
     for row in rows.split("\n\n") {
         let answer = answers::answer(alloc, row).context(row)?;
-        out.write_all(row.as_bytes())?;
-        out.write_all(b"\n")?;
-        out.write_all(answer.as_slice())?;
+        write_row(out, row, answer.as_slice())?;
+    }
+    out.write_all(b"\n")?;
+    Ok(())
+}
+
+/// Types that stand alone.
+fn write_single_types<W: Write>(alloc: Global, out: &mut W) -> Result<()> {
+    write_heading(out, "Types that stand alone")?;
+    for row in rows::SINGLE_TYPES.split("\n\n") {
+        let answer = single::answer_types(alloc, row).context(row)?;
+        write_row(out, row, answer.as_slice())?;
     }
     out.write_all(b"\n")?;
     Ok(())
@@ -94,6 +124,7 @@ fn main(rt: HostRuntime) -> Result<()> {
     let mut out = BufWriter::new(alloc, io::writer(&rt))?;
     write_meanings(alloc, &mut out)?;
     write_faults(alloc, &mut out)?;
+    write_single_types(alloc, &mut out)?;
     out.flush()?;
     Ok(())
 }

@@ -622,3 +622,43 @@ pub(crate) const FAULTS_BESIDE: &str = "-type t() :: t() | a.
 
 -spec f(ety:negation(A)) -> x.
 -type t() :: t() | a.";
+
+/// Types that stand alone, behind `? `, with the forms of the module with whose types and records they are
+/// read.
+pub(crate) const SINGLE_TYPES: &str = "? X
+? {X, Y, X}
+? Y | _
+? Z
+
+? _
+
+-type t(A) :: {A, b}.
+-record(r, {f, g = 1 :: integer()}).
+? t(Y)
+? #r{}
+? #r{f :: Y}
+? [#r{g :: X, f :: t(X)}]
+
+? ety:intersection(X, ety:negation(integer()))
+? fun((X) -> [Y, ...])
+? fun((N :: X) -> N)
+? #{a := Y, integer() => X}
+
+? ety:negation(X)
+? ety:negation(fun(() -> X))
+
+-type t(A) :: A.
+-record(r, {f}).
+? u()
+? t()
+? {X, 3..1, u()}
+? #s{}
+? #r{f :: Y, g :: 1, f :: 2}
+? #{a := 1, [] := 2, a => pid()}
+? #{a := 1, a := X}
+? #r{f :: X, f :: Y}
+? {pid(), Y}
+? X
+
+-type t() :: u().
+? t()";

@@ -41,6 +41,7 @@ abbrev pub term_so_far : List Bool → Option Term → Option Term → Option �
 term_so_far settled own standing Nothing = own
 term_so_far settled own standing (Some place) = cond (get_or settled place false) standing Nothing
 
+-- each variable has in the table the term that it has so far
 abbrev pub StandsSoFar : Declarations → SpecClauseKind → (Name → Option Term) → Standing → Type 0
 StandsSoFar d c own s = (x : Name) → terms_in s.terms x ≡ term_so_far s.settled (own x) (stands_for d c own x) (place_among (bounded c.bounds) x)
 

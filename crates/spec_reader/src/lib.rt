@@ -9,3 +9,5 @@ mod standing;
 mod variables;
 
 pub use arrows::read_spec;
+pub use names::narrow;
+pub use variables::own_variable;

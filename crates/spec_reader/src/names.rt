@@ -79,7 +79,7 @@ pub(crate) fn places_of<'a>(alloc: Global, names: &[&'a Text]) -> Result<NameNum
 /// # Errors
 ///
 /// `NoMemory` where it passes what fits.
-pub(crate) fn narrow(number: usize) -> Result<u32, NoMemory>
+pub fn narrow(number: usize) -> Result<u32, NoMemory>
     ensures { IfOk result (λ n. n ≡ number) }
 {
     match u32::try_from(number) {

@@ -285,11 +285,12 @@ fn unsettled(alloc: Global, count: usize) -> Result<List<bool>, NoMemory>
     Ok(settled)
 }
 
-/// What the variables of a clause stand for, where these names have numbers that count from the first one.
+/// What the variables of a clause stand for, where these names have numbers that count from the first one. By the order one round
+/// settles all bounds; that isn't proved, so there may be more.
 ///
 /// # Errors
 ///
-/// `NoMemory` where memory runs out, or a number passes what fits.
+/// `NoMemory` where memory runs out, a number passes what fits, or 2 ^ 64 - 1 rounds are used up.
 pub(crate) fn standing_terms(
     source: &Source<'_, '_>,
     first: u32,

@@ -58,7 +58,7 @@ fn is_wildcard(name: &Text) -> bool
 }
 
 /// The variable that a type expression is, if it is one. `_` is none.
-pub(crate) fn own_variable(t: &TypeExpr) -> Option<&Text>
+pub fn own_variable(t: &TypeExpr) -> Option<&Text>
     ensures { as_list (option_copied result) ≡ rules.own_variable t.now }
 {
     match t.kind.get() {

@@ -1,15 +1,24 @@
--- The records that forms declare.
-use Rattle.std.proofs.Common.{◌≡◌, ℕ, ◌+◌, ◌<◌, ◌≤◌, Bool, true, false, List, [], ◌∷◌, ◌++◌, length, drop, get_or, refl, sym, ap, ◌∙◌, Option, Some, None, append_assoc, append-nil}
+-- The records that forms declare, and those that specs tell.
+use Rattle.std.proofs.Common.{◌≡◌, ℕ, suc, Bool, true, false, cond, List, [], ◌∷◌, ◌++◌, map, refl, sym, ap, ◌∙◌, Option, Some, None, append_assoc, append-nil}
 use Rattle.std.specs.Prelude.{if◌then◌else◌}
-use Rattle.std.proofs.lemmas.List.{drop_all}
+use Rattle.std.specs.Option.{option_map}
 use Rattle.type_terms.specs.Keys.{Name, same_name}
+use Rattle.type_terms.specs.declared.term.Def.{Def}
+use Rattle.type_terms.specs.declared.spec.FunSpec.{FunSpec}
 use Rattle.erl_tree.specs.declared.token.Node.{Node}
 use Rattle.erl_tree.specs.declared.form.RecDefKind.{RecDefKind}
 use Rattle.erl_tree.specs.declared.form.TreeForm.{TreeForm}
 use Rattle.erl_tree.specs.declared.form.TreeForm.TheVariants as F
-use Rattle.erl_runs.specs.Records.{find_record, records_in}
-use Rattle.type_checks.specs.Tables.{IsDeclaration, HasSameRecords}
-use Rattle.type_checks.proofs.Rows.{rest_at}
+use Rattle.erl_tree.specs.declared.form.Module.{Module}
+use Rattle.erl_runs.specs.Records.{records_in, find_record, fields_of, has_field}
+use Rattle.erl_runs.specs.Specs.{and_then, specs_in}
+use Rattle.type_rules.specs.declared.specs.RecordSpec.{RecordSpec}
+use Rattle.type_rules.specs.declared.specs.Specs.{Specs}
+use Rattle.type_rules.specs.Declarations.{Declarations, declarations_of}
+use Rattle.type_rules.specs.SpecTerms.{module_specs, definitions, function_specs, type_names, record_specs, records_from}
+use Rattle.type_checks.specs.Tables.{Record, find_fields, of_declaration, of_spec, HasSameRecords}
+use Rattle.type_checks.proofs.RecordLookups.{front-alike}
+use Rattle.type_checks.proofs.NameSetLaws.{fields-named}
 
 pub not_declared : (form : TreeForm) (forms : List TreeForm) → ((r : Node RecDefKind) → form ≡ F.RecDef r → ⊥) → records_in (form ∷ forms) ≡ records_in forms
 not_declared (F.RecDef r) forms h = absurd (h r refl)
@@ -18,35 +27,59 @@ not_declared _ forms h = refl
 pub is_declared : (form : TreeForm) (forms : List TreeForm) (r : Node RecDefKind) (k : RecDefKind) → form ≡ F.RecDef r → k ≡ r.kind → records_in (form ∷ forms) ≡ k ∷ records_in forms
 is_declared form forms r k is e = ap (λ f. records_in (f ∷ forms)) is ∙ ap (λ q. q ∷ records_in forms) (sym e)
 
--- ---- records of forms
-
--- the first of these, or of those behind them
-first_found : Option RecDefKind → Option RecDefKind → Option RecDefKind
-first_found (Some r) other = Some r
-first_found None other = other
-
-find-append : (rs qs : List RecDefKind) (n : Name) → find_record (rs ++ qs) n ≡ first_found (find_record rs n) (find_record qs n)
-unfolding first_found
-find-append [] qs n = refl
-find-append (r ∷ rs) qs n = by (same_name r.name n) (find-append rs qs n)
+-- a declaration gives the fields that the table finds
+pub find-declared : (rs : List RecDefKind) (n : Name) → find_fields (map of_declaration rs) n ≡ option_map (λ (r : RecDefKind). has_field (fields_of r)) (find_record rs n)
+find-declared [] n = refl
+find-declared (r ∷ rs) n = by (same_name r.name n) (find-declared rs n)
   where
-    by : (b : Bool) → find_record (rs ++ qs) n ≡ first_found (find_record rs n) (find_record qs n) → (if b then Some r else find_record (rs ++ qs) n) ≡ first_found (if b then Some r else find_record rs n) (find_record qs n)
+    by : (b : Bool) → find_fields (map of_declaration rs) n ≡ option_map (λ (r : RecDefKind). has_field (fields_of r)) (find_record rs n)
+        → cond b (Some (has_field (fields_of r))) (find_fields (map of_declaration rs) n) ≡ option_map (λ (r : RecDefKind). has_field (fields_of r)) (if b then Some r else find_record rs n)
     by true e = refl
     by false e = e
 
-module _ (forms : List TreeForm) where
-  abbrev pub IsDeclaredTo : ℕ → List RecDefKind → Type 0
-  IsDeclaredTo i found = (n : Name) → find_record (found ++ records_in (drop i forms)) n ≡ find_record (records_in forms) n
+-- only which names a record's fields have counts
+pub fields-alike : (rs : List Record) (n : Name) (f g : Name → Bool) → ((x : Name) → f x ≡ g x) → HasSameRecords (rs ++ (n, f) ∷ []) (rs ++ (n, g) ∷ [])
+fields-alike rs n f g h m = ap (λ (t : Name → Bool). find_fields (rs ++ (n, t) ∷ []) m) (λ j. λ x. h x j)
 
-  pub declared_next : (i : ℕ) (form : TreeForm) (r : RecDefKind) (found new : List RecDefKind) → i < length forms → form ≡ get_or forms i form → records_in (form ∷ drop (i + 1) forms) ≡ r ∷ records_in (drop (i + 1) forms) → IsDeclaration found r new → IsDeclaredTo i found → IsDeclaredTo (i + 1) new
-  declared_next i form r found new lt is one adds so_far n =
-      find-append new (records_in (drop (i + 1) forms)) n
-      ∙ (ap (λ o. first_found o (find_record (records_in (drop (i + 1) forms)) n)) (adds n)
-      ∙ (sym (find-append (found ++ r ∷ []) (records_in (drop (i + 1) forms)) n)
-      ∙ (ap (λ rs. find_record rs n) (append_assoc found (r ∷ []) (records_in (drop (i + 1) forms)) ∙ ap (λ rs. found ++ rs) (sym one ∙ ap records_in (sym (rest_at forms i form lt is)))) ∙ so_far n)))
+-- ---- loops
 
-  pub declared_same : (i : ℕ) (form : TreeForm) (found : List RecDefKind) → i < length forms → form ≡ get_or forms i form → records_in (form ∷ drop (i + 1) forms) ≡ records_in (drop (i + 1) forms) → IsDeclaredTo i found → IsDeclaredTo (i + 1) found
-  declared_same i form found lt is nothing so_far n = ap (λ rs. find_record (found ++ rs) n) (sym nothing ∙ ap records_in (sym (rest_at forms i form lt is))) ∙ so_far n
+module _ (whole : List Record) where
+  -- the records so far, and those that are left
+  abbrev pub IsFilledTo : List Record → List Record → Type 0
+  IsFilledTo rest found = HasSameRecords (found ++ rest) whole
 
-  pub declared_last : (i : ℕ) (found : List RecDefKind) → length forms ≤ i → IsDeclaredTo i found → HasSameRecords found (records_in forms)
-  declared_last i found end so_far n = ap (λ rs. find_record rs n) (sym (append-nil found) ∙ ap (λ rs. found ++ rs) (sym (ap records_in (drop_all i forms end)))) ∙ so_far n
+  pub filled_init : (rest found : List Record) → found ≡ [] → rest ≡ whole → IsFilledTo rest found
+  filled_init rest found none is n = λ j. find_fields (none j ++ is j) n
+
+  pub filled_next : (rest later found new : List Record) (r : Record) → rest ≡ r ∷ later → HasSameRecords new (found ++ r ∷ []) → IsFilledTo rest found → IsFilledTo later new
+  filled_next rest later found new r is adds so_far n =
+      front-alike new (found ++ r ∷ []) later adds n
+      ∙ (ap (λ rs. find_fields rs n) (append_assoc found (r ∷ []) later ∙ ap (λ rs. found ++ rs) (sym is)) ∙ so_far n)
+
+  pub filled_same : (rest later found : List Record) → rest ≡ later → IsFilledTo rest found → IsFilledTo later found
+  filled_same rest later found is so_far n = ap (λ rs. find_fields (found ++ rs) n) (sym is) ∙ so_far n
+
+  pub filled_last : (rest found : List Record) → rest ≡ [] → IsFilledTo rest found → HasSameRecords found whole
+  filled_last rest found none so_far n = ap (λ rs. find_fields rs n) (sym (append-nil found) ∙ ap (λ rs. found ++ rs) (sym none)) ∙ so_far n
+
+-- ---- the records of a module's specs
+
+specified : (n : ℕ) (rs : List RecDefKind) → map of_spec (records_from n rs) ≡ map of_declaration rs
+specified n [] = refl
+specified n (r ∷ rs) = λ j. (r.name, λ x. fields-named (fields_of r) x j) ∷ specified (suc n) rs j
+
+records_of_some : Option Specs → List RecordSpec
+records_of_some None = []
+records_of_some (Some s) = s.records
+
+records-are : (d : Declarations) (a : Option (List Def)) (b : Option (List FunSpec)) (s : Specs) → and_then a (λ defs. option_map (λ functions. record { defs = defs; types = type_names d; functions = functions; records = record_specs d }) b) ≡ Some s → s.records ≡ record_specs d
+unfolding records_of_some
+records-are d (Some a) (Some b) s e = sym (ap records_of_some e)
+records-are d (Some a) None s e = absurd (cc)
+records-are d None b s e = absurd (cc)
+
+-- they are those of its declarations
+pub specified-records : (m : Module) (s : Specs) → module_specs m ≡ Some s → map of_spec s.records ≡ map of_declaration (declarations_of m).records
+specified-records m s e =
+    ap (map of_spec) (records-are (declarations_of m) (definitions (declarations_of m)) (function_specs (declarations_of m) (specs_in m.forms)) s e)
+    ∙ specified _ (declarations_of m).records

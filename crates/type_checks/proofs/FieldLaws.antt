@@ -1,7 +1,8 @@
 -- Names that stand before others, and the loops over fields.
-use Rattle.std.proofs.Common.{◌≡◌, ℕ, ◌+◌, ◌<◌, ◌≤◌, Bool, true, false, not, ◌||◌, List, [], ◌∷◌, ◌++◌, length, drop, get_or, map, refl, sym, ap, ap₂, ◌∙◌, subst, Option, Bor, append_assoc}
+use Rattle.std.proofs.Common.{◌≡◌, ℕ, ◌+◌, ◌<◌, ◌≤◌, Bool, true, false, not, ◌||◌, List, [], ◌∷◌, ◌++◌, length, drop, get_or, refl, sym, ap, ap₂, ◌∙◌, subst, Option, Some, None, Bor, append_assoc}
 use Rattle.std.specs.Prelude.{if◌then◌else◌}
 use Rattle.std.specs.List.{list_any}
+use Rattle.std.specs.Option.{option_map}
 use Rattle.std.specs.Str.{bytes_eq}
 use Rattle.std.proofs.lemmas.List.{drop_all}
 use Rattle.indexmap.specs.IndexSet.{insert_key}
@@ -10,35 +11,31 @@ use Rattle.type_terms.proofs.KeyLaws.{name-is}
 use Rattle.erl_tree.specs.declared.token.Node.{Node}
 use Rattle.erl_tree.specs.declared.type_expr.TypeKind.{TypeKind}
 use Rattle.erl_tree.specs.declared.form.RecDefKind.{RecDefKind}
-use Rattle.erl_tree.specs.declared.form.RecFieldKind.{RecFieldKind}
-use Rattle.erl_runs.specs.Records.{has_field}
+use Rattle.erl_runs.specs.Records.{fields_of, has_field}
 use Rattle.type_rules.specs.declared.fault.PlacedFault.{PlacedFault}
 use Rattle.type_rules.specs.declared.fault.TypeFault.TheVariants.{NoSuchType, Repeated}
 use Rattle.type_rules.specs.TypeFaults.{unless, stands_among, may_have, fields_faults}
 use Rattle.type_rules.specs.Earliest.{earliest}
-use Rattle.type_checks.specs.Allowed.{names_in}
-use Rattle.type_checks.specs.Fields.{field_faults}
+use Rattle.type_checks.specs.declared.name_set.NameSet.{NameSet}
+use Rattle.type_checks.specs.NameSets.{names_in, has_name}
+use Rattle.type_checks.specs.Fields.{field_faults, HasFieldsOf}
 use Rattle.type_checks.proofs.EarliestLaws.{earliest-append}
 use Rattle.type_checks.proofs.NamesCompared.{bytes-same}
 use Rattle.type_checks.proofs.Rows.{rest_at}
 
 -- ---- whether a record has a field
 
-abbrev kinds : List (Node RecFieldKind) → List RecFieldKind
-kinds fs = map (λ f. f.kind) fs
+-- whether a name may be one of these fields, if they are known
+abbrev pub may_be : Option (Name → Bool) → Name → Bool
+may_be None x = true
+may_be (Some fields) x = fields x
 
-module _ (fs : List (Node RecFieldKind)) (i : ℕ) (f : Node RecFieldKind) (lt : i < length fs) (is : f ≡ get_or fs i f) (k : RecFieldKind) (kind : k ≡ f.kind) (a m n : Name) (name : a ≡ k.name) (same : m ≡ n) (b : Bool) (test : b ≡ bytes_eq a m) (whole : Bool) (so_far : has_field (kinds (drop i fs)) n ≡ whole) where
-  tested : b ≡ same_name f.kind.name n
-  tested = test ∙ (bytes-same a m ∙ ((λ j. same_name (name j) (same j)) ∙ ap (λ x. same_name x n) (ap (λ (x : RecFieldKind). x.name) kind)))
-
-  turned : has_field (f.kind ∷ kinds (drop (i + 1) fs)) n ≡ whole
-  turned = ap (λ xs. has_field (kinds xs) n) (sym (rest_at fs i f lt is)) ∙ so_far
-
-  pub field_here : b ≡ true → true ≡ whole
-  field_here h = sym (ap (λ t. if t then true else has_field (kinds (drop (i + 1) fs)) n) (sym tested ∙ h)) ∙ turned
-
-  pub field_later : b ≡ false → has_field (kinds (drop (i + 1) fs)) n ≡ whole
-  field_later h = sym (ap (λ t. if t then true else has_field (kinds (drop (i + 1) fs)) n) (sym tested ∙ h)) ∙ turned
+pub may-have : (set : Option NameSet) (d : Option RecDefKind) (x : Name) → HasFieldsOf set d → may_be (option_map has_name set) x ≡ may_have d x
+may-have set d x h = ap (λ o. may_be o x) h ∙ by d
+  where
+    by : (o : Option RecDefKind) → may_be (option_map (λ (r : RecDefKind). has_field (fields_of r)) o) x ≡ may_have o x
+    by None = refl
+    by (Some r) = refl
 
 -- ---- the names that stand before a field
 

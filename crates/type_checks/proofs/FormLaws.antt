@@ -23,7 +23,7 @@ use Rattle.type_rules.specs.RegularUse.{field_types}
 use Rattle.type_rules.specs.TypeFaults.{Behind, behind, unless, stands_among, no_variable, type_faults, default_faults, declared_fields_faults, form_faults}
 use Rattle.type_rules.specs.Earliest.{earliest}
 use Rattle.type_checks.specs.declared.forms.Before.{Before}
-use Rattle.type_checks.specs.Allowed.{names_in}
+use Rattle.type_checks.specs.NameSets.{names_in}
 use Rattle.type_checks.specs.Behind.{IsBehind, field_type_faults}
 use Rattle.type_checks.proofs.EarliestLaws.{earliest-append}
 use Rattle.type_checks.proofs.FieldLaws.{Seen, is_key, seen-is, seen-more}

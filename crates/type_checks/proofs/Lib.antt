@@ -4,7 +4,7 @@ pub mod NamesCompared
 pub mod RecordLookups
 pub mod DeclaredRecords
 pub mod FieldLaws
-pub mod AllowedLaws
+pub mod NameSetLaws
 pub mod LevelLaws
 pub mod TypeLaws
 pub mod DefaultLaws

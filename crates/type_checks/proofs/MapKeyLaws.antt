@@ -19,7 +19,7 @@ use Rattle.type_rules.specs.declared.fault.PlacedFault.{PlacedFault}
 use Rattle.type_rules.specs.TypeTerms.{MapKey, this_key, integer_keys, atom_keys, no_key, key_layer, map_key}
 use Rattle.type_rules.specs.TypeFaults.{same_map_key, stands_among, part_key, key_faults, keys_faults}
 use Rattle.type_rules.specs.Earliest.{earliest}
-use Rattle.type_checks.specs.Allowed.{names_in}
+use Rattle.type_checks.specs.NameSets.{names_in}
 use Rattle.type_checks.specs.declared.keys.SeenKeys.{SeenKeys}
 use Rattle.type_checks.specs.SeenKeys.{was_seen, IsSeen, use_key}
 use Rattle.type_checks.proofs.EarliestLaws.{earliest-append}

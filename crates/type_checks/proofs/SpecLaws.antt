@@ -16,7 +16,7 @@ use Rattle.type_rules.specs.Bounds.{Bound, bounded}
 use Rattle.type_rules.specs.TypeVariables.{clause_types}
 use Rattle.type_rules.specs.TypeFaults.{unless, any_variable, stands_among, has_repeated, type_faults, clause_faults, clauses_faults}
 use Rattle.type_rules.specs.Earliest.{earliest}
-use Rattle.type_checks.specs.Allowed.{names_in}
+use Rattle.type_checks.specs.NameSets.{names_in}
 use Rattle.type_checks.specs.Specs.{bound_faults, arity_faults}
 use Rattle.type_checks.proofs.NamesCompared.{same-sym}
 use Rattle.type_checks.proofs.FieldLaws.{Seen, is_key, seen-is, seen-more}

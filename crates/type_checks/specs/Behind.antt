@@ -1,4 +1,4 @@
--- What stands in the forms behind others, in tables.
+-- What stands in the forms before a form, in tables.
 use Rattle.std.specs.Prelude.{◌≡◌, ℕ, List, [], Option}
 use Rattle.std.specs.List.{list_any}
 use Rattle.type_terms.specs.Keys.{Name}
@@ -14,16 +14,16 @@ use Rattle.type_rules.specs.RegularUse.{field_types}
 use Rattle.type_rules.specs.TypeFaults.{Behind, stands_among, type_faults, no_variable}
 use Rattle.type_checks.specs.declared.forms.Before.{Before}
 
--- the tables have what stands behind
+-- the tables have what stands before a form
 pub record IsBehind (before : Before) (b : Behind) : Type 0 where
   pub types : (name : Name) (count : ℕ) → list_any (same_id (of_function name count)) (ids before.types) ≡ list_any (is_type_named name count) b.types
   pub records : (name : Name) → list_any (same_id (of_function name 0)) (ids before.records) ≡ stands_among name b.records
   pub specs : (id : FunctionId) → list_any (same_id id) (ids before.specs) ≡ list_any (same_id id) b.specs
 
--- nothing stands behind the first form
+-- nothing stands before the first form
 abbrev pub nothing_behind : Behind
 nothing_behind = record { types = []; records = []; specs = [] }
 
--- the type of a field of a record declaration
+-- what is wrong with the type of a field of a record declaration
 abbrev pub field_type_faults : Declarations → Option (Node TypeKind) → List PlacedFault
 field_type_faults declared of = from_each (type_faults declared no_variable) (field_types of)

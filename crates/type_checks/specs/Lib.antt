@@ -1,5 +1,5 @@
 pub mod Tables
-pub mod Allowed
+pub mod NameSets
 pub mod Noted
 pub mod Fields
 pub mod Levels

@@ -1,17 +1,16 @@
 -- Faults that are noted by what a module declares.
-use Rattle.std.specs.Prelude.{◌≡◌, List, Option}
-use Rattle.type_terms.specs.Keys.{Name}
-use Rattle.erl_runs.specs.Records.{find_record}
+use Rattle.std.specs.Prelude.{◌≡◌, List, map, Option}
 use Rattle.type_rules.specs.declared.fault.PlacedFault.{PlacedFault}
 use Rattle.type_rules.specs.Declarations.{Declarations}
 use Rattle.type_rules.specs.Earliest.{earliest}
 use Rattle.type_tables.specs.Numbers.{KnowsNumbers}
 use Rattle.type_checks.specs.declared.scope.Scope.{Scope}
+use Rattle.type_checks.specs.Tables.{HasSameRecords, table_records, of_declaration}
 
 -- each look-up gives what the declarations give
 pub record KnowsDeclared (scope : Scope) (d : Declarations) : Type 0 where
   pub numbers : KnowsNumbers scope.numbers.now d
-  pub records : (name : Name) → find_record scope.records name ≡ find_record d.records name
+  pub records : HasSameRecords (table_records scope.records) (map of_declaration d.records)
 
 -- the first fault, after these are noted
 abbrev pub IsNoted : Scope → Option PlacedFault → Option PlacedFault → (Declarations → List PlacedFault) → Type 0

@@ -7,7 +7,7 @@ use Rattle.erl_tree.specs.declared.token.Node.{Node}
 use Rattle.erl_tree.specs.declared.type_expr.TypeKind.{TypeKind}
 use Rattle.type_rules.specs.TypeTerms.{MapKey, this_key, integer_keys, atom_keys, no_key, keys_of_type}
 use Rattle.type_rules.specs.TypeFaults.{same_map_key, stands_among}
-use Rattle.type_checks.specs.Allowed.{names_in}
+use Rattle.type_checks.specs.NameSets.{names_in}
 use Rattle.type_checks.specs.declared.keys.Key.{Key}
 use Rattle.type_checks.specs.declared.keys.Key.TheVariants as K
 use Rattle.type_checks.specs.declared.keys.SeenKeys.{SeenKeys}

@@ -5,14 +5,14 @@ ghost use Rattle.erl_tree.specs.declared.form.TreeForm.TheVariants as F;
 ghost use Rattle.type_tables.specs.Numbers.{KnowsNumbers};
 ghost use Rattle.type_rules.specs.BuiltInTypes.{is_built_in_name};
 ghost use Rattle.type_rules.specs.Declarations.{declarations_of};
-ghost use Rattle.type_rules.specs.TypeFaults.{Behind, behind, no_variable, declared_fields_faults, type_form_faults, record_form_faults, spec_form_faults, form_faults, forms_faults, listed_faults};
+ghost use Rattle.type_rules.specs.TypeFaults.{Behind, behind, declared_fields_faults, type_form_faults, record_form_faults, spec_form_faults, form_faults, forms_faults, listed_faults};
 ghost use Rattle.type_rules.specs.Earliest.{earliest};
 ghost use Rattle.type_checks.specs.Noted.{IsNoted};
 ghost use Rattle.type_checks.specs.Behind.{IsBehind, nothing_behind, field_type_faults};
 
-use crate::allowed::Allowed;
 use crate::defaults::note_default;
 use crate::first::{First, note_unless};
+use crate::name_set::NameSet;
 use crate::scope::{Scope, declared_records};
 use crate::specs::check_clauses;
 use crate::types::check_type;
@@ -25,7 +25,7 @@ use type_rules::{PlacedFault, TypeFault};
 use type_tables::DeclaredNumbers;
 use type_terms::{NoMemory, Text};
 
-/// What stands in the forms behind others: types by their names and the numbers of their parameters, records by
+/// What stands in the forms before a form: types by their names and the numbers of their parameters, records by
 /// their names, each with 0 parameters, and specs by the functions that they are written for.
 #[derive(Drop)]
 struct Before {
@@ -60,7 +60,7 @@ fn check_type_form(
         .insert(scope.alloc, &kind.name, kind.params.len(), 0)?;
     let is_free = is_free(&kind.name, is_new);
     note_unless(first, is_free, declaration.place, TypeFault::Repeated);
-    let allowed = Allowed::named(scope.alloc, kind.params.as_slice())?;
+    let allowed = NameSet::named(scope.alloc, kind.params.as_slice())?;
     check_type(scope, &allowed, &kind.body, first)
 }
 
@@ -75,7 +75,7 @@ fn check_field_type(
     match of {
         None => Ok(()),
         Some(of) => {
-            let allowed = Allowed::all_or_none(scope.alloc, false);
+            let allowed = NameSet::all_or_none(scope.alloc, false);
             check_type(scope, &allowed, of, first)
         }
     }

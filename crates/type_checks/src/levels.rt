@@ -1,19 +1,18 @@
 //! One level of a type expression.
 
-ghost use Rattle.std.specs.Prelude.{◌≡◌, ◌||◌, length, is_some, IfOk, OnOk};
-ghost use Rattle.std.specs.Option.{option_copied};
+ghost use Rattle.std.specs.Prelude.{◌≡◌, ◌||◌, is_some, IfOk, OnOk};
 ghost use Rattle.erl_runs.specs.Names as names;
 ghost use Rattle.type_rules.specs.BuiltInTypes as built_in;
 ghost use Rattle.type_rules.specs.Declarations.{Declarations, type_number};
 ghost use Rattle.type_rules.specs.TypeFaults.{own_faults, use_faults};
-ghost use Rattle.type_checks.specs.Allowed.{allows};
+ghost use Rattle.type_checks.specs.NameSets.{has_name};
 ghost use Rattle.type_checks.specs.Levels.{named_faults, record_faults};
 ghost use Rattle.type_checks.specs.Noted.{IsNoted, KnowsDeclared};
 
-use crate::allowed::Allowed;
 use crate::fields::note_fields;
 use crate::first::{First, note, note_unless};
 use crate::keys::note_keys;
+use crate::name_set::NameSet;
 use crate::ranges::is_range;
 use crate::scope::Scope;
 use built_in_types::{is_built_in_type, is_out_of_profile, is_prefixed_type};
@@ -87,23 +86,23 @@ fn note_record(
 ) -> Result<(), NoMemory>
     ensures { OnOk result (IsNoted scope.now first.old first.new (λ d. record_faults d name.now fields.now place)) }
 {
-    let declaration = scope.records.find(name);
-    note_unless(first, declaration.is_some(), place, TypeFault::NoSuchType);
-    note_fields(scope.alloc, declaration, fields, first)
+    let declared = scope.records.find(name);
+    note_unless(first, declared.is_some(), place, TypeFault::NoSuchType);
+    note_fields(scope.alloc, declared, fields, first)
 }
 
 /// What is wrong with one level of a type expression, in which some variables may stand.
 pub fn note_own(
     scope: &Scope<'_>,
-    allowed: &Allowed<'_>,
+    allowed: &NameSet<'_>,
     t: &TypeExpr,
     first: &mut First,
 ) -> Result<(), NoMemory>
-    ensures { OnOk result (IsNoted scope.now first.old first.new (λ d. own_faults d (allows allowed.now) t.now)) }
+    ensures { OnOk result (IsNoted scope.now first.old first.new (λ d. own_faults d (has_name allowed.now) t.now)) }
 {
     match t.kind.get() {
         TypeKind::Var(name) => {
-            let may_stand = is_wildcard(name) || allowed.allows(name);
+            let may_stand = is_wildcard(name) || allowed.has_name(name);
             note_unless(first, may_stand, t.place, TypeFault::NoSuchType);
             Ok(())
         }

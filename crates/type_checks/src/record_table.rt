@@ -1,67 +1,68 @@
 //! A table of the records of a module.
 
-ghost use Rattle.std.specs.Prelude.{◌≡◌, [], OnOk};
-ghost use Rattle.std.specs.Option.{option_copied};
-ghost use Rattle.erl_runs.specs.Records.{find_record};
-ghost use Rattle.type_checks.specs.Tables.{IsDeclaration};
+ghost use Rattle.std.specs.Prelude.{◌≡◌, [], ◌∷◌, ◌++◌, OnOk};
+ghost use Rattle.std.specs.Option.{option_copied, option_map};
+ghost use Rattle.type_checks.specs.NameSets.{has_name};
+ghost use Rattle.type_checks.specs.Tables.{HasSameRecords, table_records, find_fields, of_declaration, of_spec};
 
+use crate::name_set::NameSet;
 use erl_tree::RecDefKind;
 use indexmap::IndexMap;
 use std::alloc::Global;
-use std::marker::Model;
+use type_rules::RecordSpec;
 use type_terms::{NoMemory, Text};
 
-/// The first declaration of each record, by its name. Contracts see it as the list of these declarations, in
-/// the order in which they were added.
+/// The names of the fields of each record, by the record's name. Of a record that is added twice the first counts.
 #[derive(Drop)]
 pub struct RecordTable<'a> {
-    declarations: IndexMap<&'a [u8], &'a RecDefKind>,
-}
-
-impl<'a> Model for RecordTable<'a> {
-    ghost use Rattle.std.specs.Prelude.{List};
-    ghost use Rattle.erl_tree.specs.declared.form.RecDefKind.{RecDefKind};
-
-    ghost Value = { List RecDefKind };
-
-    ghost use Rattle.std.specs.Coded.{codes};
-    ghost use Rattle.erl_tree.specs.contracts.expr.ExprKind as expr_code;
-    ghost use Rattle.erl_tree.specs.contracts.type_expr.TypeKind as type_code;
-
-    ghost coded = { Prim.hlevel (codes, expr_code.the_row.coded, type_code.the_row.coded) };
-
-    ghost use Rattle.type_checks.specs.Tables.{declared_in, AreNamed};
-
-    ghost view = { λ t. declared_in t.declarations.entries };
-
-    ghost invariant = { λ t. AreNamed t.declarations.entries };
+    pub sets: IndexMap<&'a [u8], NameSet<'a>>,
 }
 
 impl<'a> RecordTable<'a> {
     /// The empty table.
     pub fn new(alloc: Global) -> RecordTable<'a>
-        ensures { result ≡ [] }
+        ensures { table_records result ≡ [] }
     {
         RecordTable {
-            declarations: IndexMap::new(alloc),
+            sets: IndexMap::new(alloc),
         }
     }
 
-    /// Adds a declaration, unless the record is declared already.
-    pub fn insert(&mut self, declaration: &'a RecDefKind) -> Result<(), NoMemory>
-        ensures { OnOk result (IsDeclaration self.old declaration.now self.new) }
+    /// Adds a record with such fields.
+    fn insert(&mut self, name: &'a Text, fields: NameSet<'a>) -> Result<(), NoMemory>
+        ensures { OnOk result (HasSameRecords (table_records self.new) (table_records self.old ++ (name.now, has_name fields.entry) ∷ [])) }
     {
-        let name = declaration.name.as_slice();
-        if !self.declarations.contains_key(&name) {
-            self.declarations.insert(name, declaration)?;
+        let key = name.as_slice();
+        if !self.sets.contains_key(&key) {
+            self.sets.insert(key, fields)?;
         }
         Ok(())
     }
 
-    /// The declaration of a record, if there is one.
-    pub fn find(&self, name: &Text) -> Option<&'a RecDefKind>
-        ensures { option_copied result ≡ find_record self.now name.now }
+    /// Adds a record by its declaration.
+    pub fn insert_declaration(
+        &mut self,
+        alloc: Global,
+        declaration: &'a RecDefKind,
+    ) -> Result<(), NoMemory>
+        ensures { OnOk result (HasSameRecords (table_records self.new) (table_records self.old ++ of_declaration declaration.now ∷ [])) }
     {
-        self.declarations.get(&name.as_slice()).copied()
+        let fields = NameSet::of_fields(alloc, declaration)?;
+        self.insert(&declaration.name, fields)
+    }
+
+    /// Adds a record as the specs of its module tell it.
+    pub fn insert_spec(&mut self, alloc: Global, spec: &'a RecordSpec) -> Result<(), NoMemory>
+        ensures { OnOk result (HasSameRecords (table_records self.new) (table_records self.old ++ of_spec spec.now ∷ [])) }
+    {
+        let fields = NameSet::named(alloc, spec.fields.as_slice())?;
+        self.insert(&spec.name, fields)
+    }
+
+    /// The names of a record's fields, if the record is there.
+    pub fn find<'s>(&'s self, name: &'s Text) -> Option<&'s NameSet<'a>>
+        ensures { option_map has_name (option_copied result) ≡ find_fields (table_records self.now) name.now }
+    {
+        self.sets.get(&name.as_slice())
     }
 }

@@ -1,17 +1,17 @@
 //! What the names of types and records are looked up in.
 
-ghost use Rattle.std.specs.Prelude.{◌≡◌, IfOk};
-ghost use Rattle.erl_runs.specs.Records.{records_in, find_record};
-ghost use Rattle.type_terms.specs.Keys.{Name};
-ghost use Rattle.type_checks.specs.Tables.{HasSameRecords};
+ghost use Rattle.std.specs.Prelude.{IfOk, map};
+ghost use Rattle.erl_runs.specs.Records.{records_in};
+ghost use Rattle.type_checks.specs.Tables.{HasSameRecords, table_records, of_declaration, of_spec};
 
 use crate::record_table::RecordTable;
 use erl_tree::TreeForm;
 use std::alloc::Global;
+use type_rules::RecordSpec;
 use type_tables::DeclaredNumbers;
 use type_terms::NoMemory;
 
-/// The numbers of what a module declares, and its records by name.
+/// The numbers of what a module declares, and the fields of its records.
 #[derive(Drop)]
 pub struct Scope<'a> {
     pub alloc: Global,
@@ -24,13 +24,27 @@ pub fn declared_records<'a>(
     alloc: Global,
     forms: &'a [TreeForm],
 ) -> Result<RecordTable<'a>, NoMemory>
-    ensures { IfOk result (λ table. HasSameRecords table (records_in forms.now)) }
+    ensures { IfOk result (λ table. HasSameRecords (table_records table) (map of_declaration (records_in forms.now))) }
 {
     let mut table = RecordTable::new(alloc);
     for form in forms {
         if let TreeForm::RecDef(declaration) = form {
-            table.insert(declaration.kind.get())?;
+            table.insert_declaration(alloc, declaration.kind.get())?;
         }
+    }
+    Ok(table)
+}
+
+/// The same records, as the specs of a module tell them.
+pub fn specified_records<'a>(
+    alloc: Global,
+    records: &'a [RecordSpec],
+) -> Result<RecordTable<'a>, NoMemory>
+    ensures { IfOk result (λ table. HasSameRecords (table_records table) (map of_spec records.now)) }
+{
+    let mut table = RecordTable::new(alloc);
+    for record in records {
+        table.insert_spec(alloc, record)?;
     }
     Ok(table)
 }

@@ -6,12 +6,12 @@ ghost use Rattle.type_rules.specs.TypeParts.{from_each};
 ghost use Rattle.type_rules.specs.Bounds.{bounded};
 ghost use Rattle.type_rules.specs.TypeFaults.{type_faults, has_repeated, clause_faults, clauses_faults};
 ghost use Rattle.type_rules.specs.Earliest.{earliest};
-ghost use Rattle.type_checks.specs.Allowed.{allows};
+ghost use Rattle.type_checks.specs.NameSets.{has_name};
 ghost use Rattle.type_checks.specs.Noted.{IsNoted};
 ghost use Rattle.type_checks.specs.Specs.{bound_faults, arity_faults};
 
-use crate::allowed::Allowed;
 use crate::first::{First, note_unless};
+use crate::name_set::NameSet;
 use crate::scope::Scope;
 use crate::types::check_type;
 use erl_tree::{SpecClause, TypeExpr};
@@ -37,11 +37,11 @@ fn has_two_bounds(alloc: Global, bounds: &[(Text, TypeExpr)]) -> Result<bool, No
 /// What is wrong with some type expressions, in which some variables may stand.
 fn check_types(
     scope: &Scope<'_>,
-    allowed: &Allowed<'_>,
+    allowed: &NameSet<'_>,
     types: &[TypeExpr],
     first: &mut First,
 ) -> Result<(), NoMemory>
-    ensures { OnOk result (IsNoted scope.now first.old first.new (λ d. from_each (type_faults d (allows allowed.now)) types.now)) }
+    ensures { OnOk result (IsNoted scope.now first.old first.new (λ d. from_each (type_faults d (has_name allowed.now)) types.now)) }
 {
     for one in types {
         check_type(scope, allowed, one, first)?;
@@ -52,11 +52,11 @@ fn check_types(
 /// The same of the right sides of bounds.
 fn check_bounds(
     scope: &Scope<'_>,
-    allowed: &Allowed<'_>,
+    allowed: &NameSet<'_>,
     bounds: &[(Text, TypeExpr)],
     first: &mut First,
 ) -> Result<(), NoMemory>
-    ensures { OnOk result (IsNoted scope.now first.old first.new (λ d. from_each (bound_faults d (allows allowed.now)) bounds.now)) }
+    ensures { OnOk result (IsNoted scope.now first.old first.new (λ d. from_each (bound_faults d (has_name allowed.now)) bounds.now)) }
 {
     for bound in bounds {
         check_type(scope, allowed, &bound.1, first)?;
@@ -71,7 +71,7 @@ fn check_clause(scope: &Scope<'_>, clause: &SpecClause, first: &mut First) -> Re
     let kind = clause.kind.get();
     let is_twice = has_two_bounds(scope.alloc, kind.bounds.as_slice())?;
     note_unless(first, !is_twice, clause.place, TypeFault::Repeated);
-    let allowed = Allowed::all_or_none(scope.alloc, true);
+    let allowed = NameSet::all_or_none(scope.alloc, true);
     check_types(scope, &allowed, kind.params.as_slice(), first)?;
     check_type(scope, &allowed, &kind.result, first)?;
     check_bounds(scope, &allowed, kind.bounds.as_slice(), first)

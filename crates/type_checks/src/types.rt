@@ -1,15 +1,15 @@
 //! Whole type expressions.
 
-ghost use Rattle.std.specs.Prelude.{◌≡◌, OnOk};
+ghost use Rattle.std.specs.Prelude.{OnOk};
 ghost use Rattle.type_rules.specs.TypeParts.{from_each};
 ghost use Rattle.type_rules.specs.TypeFaults.{own_faults, type_faults};
 ghost use Rattle.type_tables.specs.Seen.{seen};
-ghost use Rattle.type_checks.specs.Allowed.{allows};
+ghost use Rattle.type_checks.specs.NameSets.{has_name};
 ghost use Rattle.type_checks.specs.Noted.{IsNoted};
 
-use crate::allowed::Allowed;
 use crate::first::First;
 use crate::levels::note_own;
+use crate::name_set::NameSet;
 use crate::scope::Scope;
 use erl_tree::TypeExpr;
 use type_tables::types_within;
@@ -18,11 +18,11 @@ use type_terms::NoMemory;
 /// What is wrong with one level each of some type expressions.
 fn note_each(
     scope: &Scope<'_>,
-    allowed: &Allowed<'_>,
+    allowed: &NameSet<'_>,
     types: &[&TypeExpr],
     first: &mut First,
 ) -> Result<(), NoMemory>
-    ensures { OnOk result (IsNoted scope.now first.old first.new (λ d. from_each (own_faults d (allows allowed.now)) (seen types.now))) }
+    ensures { OnOk result (IsNoted scope.now first.old first.new (λ d. from_each (own_faults d (has_name allowed.now)) (seen types.now))) }
 {
     for one in types {
         note_own(scope, allowed, *one, first)?;
@@ -33,11 +33,11 @@ fn note_each(
 /// What is wrong with a type expression, in which some variables may stand.
 pub fn check_type(
     scope: &Scope<'_>,
-    allowed: &Allowed<'_>,
+    allowed: &NameSet<'_>,
     t: &TypeExpr,
     first: &mut First,
 ) -> Result<(), NoMemory>
-    ensures { OnOk result (IsNoted scope.now first.old first.new (λ d. type_faults d (allows allowed.now) t.now)) }
+    ensures { OnOk result (IsNoted scope.now first.old first.new (λ d. type_faults d (has_name allowed.now) t.now)) }
 {
     let mut within = Vec::new(scope.alloc);
     types_within(t, &mut within)?;

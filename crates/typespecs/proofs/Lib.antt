@@ -1,7 +1,7 @@
 pub mod FormLists
 pub mod Inversion
 pub mod Arrows
-pub mod Parameters
+pub mod ParameterTables
 pub mod FirstText
 pub mod Present
 pub mod Declared

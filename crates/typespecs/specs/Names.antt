@@ -21,7 +21,7 @@ name_of d = record { name = d.name; params = length d.params }
 abbrev pub names_among : List TreeForm → List TypeName
 names_among forms = map (λ (d : Node TypeDefKind). name_of d.kind) (types_in forms)
 
--- where the names of types stand, and those of records
+-- where the names of types stand, and those of records; where a tree has no mark for one, the declaration's own place
 abbrev pub type_place : Node TypeDefKind → Place
 type_place d = get_or d.marks 2 d.place
 

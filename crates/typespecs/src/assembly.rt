@@ -6,7 +6,7 @@ ghost use Rattle.type_terms.specs.Definitions.{IsContractive};
 ghost use Rattle.type_rules.specs.Declarations.{Declarations, declarations_of};
 ghost use Rattle.type_rules.specs.SpecTerms as terms;
 ghost use Rattle.type_rules.specs.SpecTerms.{module_specs};
-ghost use Rattle.type_rules.specs.TypeFaults.{HasTerms, IsFirstFault};
+ghost use Rattle.type_rules.specs.TypeFaults.{IsFirstFault};
 ghost use Rattle.type_tables.specs.Numbers.{KnowsNumbers};
 ghost use Rattle.typespecs.specs.FaultPlaces.{placed_fault};
 ghost use Rattle.typespecs.specs.Reads.{ReadsDeclared, specs_given};

@@ -8,10 +8,10 @@ ghost use Rattle.type_rules.specs.Declarations.{Declarations, declarations_of};
 ghost use Rattle.type_rules.specs.SpecTerms as terms;
 ghost use Rattle.typespecs.specs.Reads.{ReadsDeclared, added, types_given, records_given, parameters_in};
 
-use crate::names::count;
 use built_in_types::nonempty_list_of;
 use erl_tree::{Module, RecDefKind, TreeForm, TypeDefKind};
 use record_tuples::record_term;
+use spec_reader::narrow;
 use sqlite_items::Boxed;
 use std::alloc::Global;
 use type_reader::{Reading, TermTable, TupleTable, read_type};
@@ -79,13 +79,18 @@ fn add_parameter(
     Ok(())
 }
 
-/// The parameters of a type as terms: of one that stands twice the first place counts.
-fn parameters(alloc: Global, names: &[Text]) -> Result<TermTable, NoMemory>
+/// Names of variables, as the parameters of a type are, with the variables that have the numbers of their places: of a name that
+/// stands twice the first place counts.
+///
+/// # Errors
+///
+/// `NoMemory` where memory runs out, or there are more names than a `u32` can count.
+pub fn parameters(alloc: Global, names: &[Text]) -> Result<TermTable, NoMemory>
     ensures { IfOk result (λ table. parameters_in table names.now) }
 {
     let mut table = TermTable::new(alloc);
     for (number, name) in names.iter().enumerate() {
-        add_parameter(alloc, name, count(number)?, &mut table)?;
+        add_parameter(alloc, name, narrow(number)?, &mut table)?;
     }
     Ok(table)
 }
@@ -94,7 +99,7 @@ fn parameters(alloc: Global, names: &[Text]) -> Result<TermTable, NoMemory>
 fn type_definition(declared: &Declared<'_>, kind: &TypeDefKind) -> Result<Option<Def>, NoMemory>
     ensures { IfOk result (λ def. (d : Declarations) → ReadsDeclared declared.now d → def ≡ terms.type_definition d kind.now) }
 {
-    let params = count(kind.params.len())?;
+    let params = narrow(kind.params.len())?;
     let variables = parameters(declared.alloc, kind.params.as_slice())?;
     let reading = Reading {
         alloc: declared.alloc,

@@ -29,7 +29,7 @@ pub enum SpecFault {
     OutOfProfile(Place, Outside),
     /// A clause of a spec has another number of parameters than the first one.
     ArityDiffers(Place),
-    /// The lower end of a range is above the upper one.
+    /// The lower end of a range is above the upper one, or an end is no integer (which no text spells).
     BadRange(Place),
 }
 
@@ -44,7 +44,7 @@ impl From<NoMemory> for SpecFault {
 }
 
 /// The answer that tells a fault.
-pub(crate) fn answer_for(found: PlacedFault) -> SpecFault
+pub fn answer_for(found: PlacedFault) -> SpecFault
     ensures { placed_fault result ≡ Some found }
 {
     match found.fault {

@@ -10,5 +10,6 @@ mod reading;
 mod records;
 mod signs;
 
-pub use fault::SpecFault;
+pub use definitions::parameters;
+pub use fault::{SpecFault, answer_for};
 pub use reading::read_specs;

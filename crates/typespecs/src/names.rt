@@ -7,25 +7,16 @@ ghost use Rattle.type_rules.specs.TypeFaults as faults;
 ghost use Rattle.typespecs.specs.Names.{name_of, names_among, type_place, type_places_among, record_place, record_places_among};
 
 use erl_tree::{Module, Node, Place, RecDefKind, TreeForm, TypeDefKind};
+use spec_reader::narrow;
 use std::alloc::Global;
 use type_rules::TypeName;
 use type_terms::{List, NoMemory, Plain};
-
-/// A length as definitions have them.
-pub(crate) fn count(length: usize) -> Result<u32, NoMemory>
-    ensures { IfOk result (λ count. count ≡ length) }
-{
-    match u32::try_from(length) {
-        Ok(count) => Ok(count),
-        Err(_) => Err(NoMemory),
-    }
-}
 
 fn type_name(alloc: Global, declaration: &TypeDefKind) -> Result<TypeName, NoMemory>
     ensures { IfOk result (λ name. name ≡ name_of declaration.now) }
 {
     let name = declaration.name.copy(alloc)?;
-    let params = count(declaration.params.len())?;
+    let params = narrow(declaration.params.len())?;
     Ok(TypeName { name, params })
 }
 

@@ -1,6 +1,6 @@
 //! The types, records and specs of a whole module.
 
-ghost use Rattle.std.specs.Prelude.{◌≡◌, IfErr, IfOk, IfSome};
+ghost use Rattle.std.specs.Prelude.{IfErr, IfOk, IfSome};
 ghost use Rattle.type_rules.specs.TypeFaults.{HasSpecs, IsFirstFault};
 ghost use Rattle.typespecs.specs.FaultPlaces.{placed_fault};
 
@@ -19,9 +19,9 @@ use type_tables::DeclaredNumbers;
 /// # Errors
 ///
 /// The first fault in the text, at its place: of two faults the one whose place stands before the other's, and at one place the
-/// one whose kind stands first in `SpecFault`. `NotContractive` is told only where none of the others but, maybe, `NegatedFun`
-/// stands, and `NegatedFun` only where none of the others stands. `NoMemory` where memory runs out, or there are more
-/// definitions, variables or parameters than a `u32` can count.
+/// one whose kind stands first in `SpecFault`, of two `OutOfProfile` the one whose form stands first in `Outside`.
+/// `NotContractive` is told only where none of the others but, maybe, `NegatedFun` stands, and `NegatedFun` only where none of the
+/// others stands. `NoMemory` where memory runs out, or there are more definitions, variables or parameters than a `u32` can count.
 pub fn read_specs(alloc: Global, module: &Module) -> Result<Specs, SpecFault>
     ensures right { IfOk result (HasSpecs «module».now) }
     ensures fault { IfErr result (λ answer. IfSome (placed_fault answer) (IsFirstFault «module».now)) }

@@ -6,8 +6,8 @@ ghost use Rattle.type_rules.specs.Declarations.{declarations_of};
 ghost use Rattle.type_rules.specs.SpecTerms as terms;
 ghost use Rattle.type_rules.specs.SpecTerms.{records_from};
 
-use crate::names::count;
 use erl_tree::{Module, Node, RecDefKind, RecFieldKind, TreeForm};
+use spec_reader::narrow;
 use std::alloc::Global;
 use type_rules::RecordSpec;
 use type_terms::{List, NoMemory, Plain, Text};
@@ -44,7 +44,7 @@ fn add_record(
     match form {
         TreeForm::RecDef(declaration) => {
             records.push(record_spec(alloc, declaration.kind.get(), *number)?)?;
-            *number = count(*number as usize + 1)?;
+            *number = narrow(*number as usize + 1)?;
             Ok(())
         }
         _ => Ok(()),
@@ -80,6 +80,6 @@ pub(crate) fn record_specs(
     requires { types ≡ length (declarations_of «module».now).types }
     ensures { IfOk result (λ records. records ≡ terms.record_specs (declarations_of «module».now)) }
 {
-    let first = count(types)?;
-    records_among(alloc, module.forms.as_slice(), count(first as usize + 2)?)
+    let first = narrow(types)?;
+    records_among(alloc, module.forms.as_slice(), narrow(first as usize + 2)?)
 }

@@ -1,18 +1,17 @@
 use Rattle.std.proofs.Common.{ap, arith}
-use Rattle.std.specs.Option.{option_copied}
 use Rattle.type_rules.specs.TypeFaults.{fields_faults}
 use Rattle.type_rules.specs.Earliest.{earliest}
-use Rattle.type_checks.specs.Allowed.{names_in}
+use Rattle.type_checks.specs.NameSets.{names_in}
 use Rattle.type_checks.proofs.FieldLaws.{fields_next, fields_last}
 use Rattle.type_checks.proofs.fields.note_fields.Goals as goal
 
 pub loop-field-init : goal.loop-field-init
-loop-field-init c = ap (λ ks. earliest c.args.first.now (fields_faults (option_copied c.args.declaration) (names_in ks) c.args.fields.now)) c.new-before.ensures.empty
+loop-field-init c = λ d h. ap (λ ks. earliest c.args.first.now (fields_faults d (names_in ks) c.args.fields.now)) c.new-before.ensures.empty
 
 pub loop-field-preserved : goal.loop-field-preserved
-loop-field-preserved c =
-    fields_next (option_copied c.args.declaration) c.args.fields.now _ c.loop-field.before.keys c.insert.new.self.keys c.loop-field.field-index c.field-item.result c.get.result.now c.as_slice.result c.in_ok-is_new.is_new c.loop-field.first c.note_field.new.first
-    c.loop-field-test.true c.field-item.is c.get.ensures c.as_slice.ensures c.in_ok-is_new.ensures.added c.in_ok-is_new.ensures.keys c.note_field.ensures c.loop-field.invariant
+loop-field-preserved c = λ d h.
+    fields_next d c.args.fields.now _ c.loop-field.before.keys c.insert.new.self.keys c.loop-field.field-index c.field-item.result c.get.result.now c.as_slice.result c.in_ok-is_new.is_new c.loop-field.first c.note_field.new.first
+    c.loop-field-test.true c.field-item.is c.get.ensures c.as_slice.ensures c.in_ok-is_new.ensures.added c.in_ok-is_new.ensures.keys (c.note_field.ensures d h) (c.loop-field.invariant d h)
 
 pub returns : goal.returns
-returns c = fields_last (option_copied c.args.declaration) c.args.fields.now _ c.loop-field.before.keys c.loop-field.field-index c.loop-field.first (omega arith) c.loop-field.invariant
+returns c = λ d h. fields_last d c.args.fields.now _ c.loop-field.before.keys c.loop-field.field-index c.loop-field.first (omega arith) (c.loop-field.invariant d h)

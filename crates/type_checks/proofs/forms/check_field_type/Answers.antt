@@ -1,7 +1,7 @@
 use Rattle.std.proofs.Common.{◌∙◌, ap, sym, append-nil}
 use Rattle.type_rules.specs.TypeFaults.{no_variable, type_faults}
 use Rattle.type_rules.specs.Earliest.{earliest}
-use Rattle.type_checks.specs.Allowed.{allows}
+use Rattle.type_checks.specs.NameSets.{has_name}
 use Rattle.type_checks.specs.Behind.{field_type_faults}
 use Rattle.type_checks.proofs.Rows.{on_ok}
 use Rattle.type_checks.proofs.TypeLaws.{allowed-alike}
@@ -13,5 +13,5 @@ returns-in-None c = λ d k. ap (λ o. earliest c.args.first.now (field_type_faul
 pub returns-in-Some : goal.returns-in-Some
 returns-in-Some c =
     on_ok c.check_type.result _ _
-    (λ h d k. h d k ∙ ap (earliest c.args.first.now) (allowed-alike d (allows c.all_or_none-allowed.result) no_variable c.all_or_none-allowed.ensures c.in-Some.of ∙ (sym (append-nil (type_faults d no_variable c.in-Some.of)) ∙ ap (field_type_faults d) (sym c.in-Some.is))))
+    (λ h d k. h d k ∙ ap (earliest c.args.first.now) (allowed-alike d (has_name c.all_or_none-allowed.result) no_variable c.all_or_none-allowed.ensures c.in-Some.of ∙ (sym (append-nil (type_faults d no_variable c.in-Some.of)) ∙ ap (field_type_faults d) (sym c.in-Some.is))))
     c.check_type.ensures

@@ -1,7 +1,7 @@
 use Rattle.std.proofs.Common.{[], ap, arith}
 use Rattle.type_rules.specs.TypeFaults.{declared_fields_faults}
 use Rattle.type_rules.specs.Earliest.{earliest}
-use Rattle.type_checks.specs.Allowed.{names_in}
+use Rattle.type_checks.specs.NameSets.{names_in}
 use Rattle.type_checks.proofs.FormLaws.{declared_fields_next, declared_fields_last}
 use Rattle.type_checks.proofs.forms.check_fields.Goals as goal
 

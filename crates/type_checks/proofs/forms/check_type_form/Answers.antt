@@ -10,7 +10,7 @@ use Rattle.type_rules.specs.BuiltInTypes.{is_built_in_name}
 use Rattle.type_rules.specs.Declarations.{is_type_named}
 use Rattle.type_rules.specs.TypeFaults.{unless, stands_among, type_faults}
 use Rattle.type_rules.specs.Earliest.{earliest}
-use Rattle.type_checks.specs.Allowed.{allows}
+use Rattle.type_checks.specs.NameSets.{has_name}
 use Rattle.type_checks.proofs.FormLaws.{type-added}
 use Rattle.type_checks.proofs.Insertions.{is_new}
 use Rattle.type_checks.proofs.Rows.{on_ok, noted_two}
@@ -28,7 +28,7 @@ returns-clause-noted c =
     ∙ (ap (λ t. not (is_built_in_name c.get-kind.result.now.name || t)) (ap (λ (g : FunctionId). list_any (same_id g) (ids c.args.before.now.types)) named ∙ ib.types c.get-kind.result.now.name (length c.get-kind.result.now.params))
     ∙ ap (λ (x : TypeDefKind). not (is_built_in_name x.name || list_any (is_type_named x.name (length x.params)) b.types)) c.get-kind.ensures)))
     (h d k ∙ ap (earliest c.note_unless.new.first)
-    (allowed-alike d (allows c.in_ok-allowed.allowed) (λ x. stands_among x c.get-kind.result.now.params) (λ x. c.in_ok-allowed.ensures x ∙ ap (λ (ps : List Name). stands_among x ps) c.as_slice.ensures) c.get-kind.result.now.body
+    (allowed-alike d (has_name c.in_ok-allowed.allowed) (λ x. stands_among x c.get-kind.result.now.params) (λ x. c.in_ok-allowed.ensures x ∙ ap (λ (ps : List Name). stands_among x ps) c.as_slice.ensures) c.get-kind.result.now.body
     ∙ ap (λ (y : TypeDefKind). type_faults d (λ x. stands_among x y.params) y.body) c.get-kind.ensures)))
     c.check_type.ensures
 

@@ -3,13 +3,13 @@ use Rattle.type_rules.specs.TypeParts.{from_each, types_within}
 use Rattle.type_rules.specs.TypeFaults.{own_faults}
 use Rattle.type_rules.specs.Earliest.{earliest}
 use Rattle.type_tables.specs.Seen.{seen}
-use Rattle.type_checks.specs.Allowed.{allows}
+use Rattle.type_checks.specs.NameSets.{has_name}
 use Rattle.type_checks.proofs.Rows.{on_ok}
 use Rattle.type_checks.proofs.types.check_type.Goals as goal
 
 pub returns : goal.returns
 returns c =
     on_ok c.note_each.result _ _
-    (λ h d k. h d k ∙ ap (λ xs. earliest c.args.first.now (from_each (own_faults d (allows c.args.allowed.now)) xs))
+    (λ h d k. h d k ∙ ap (λ xs. earliest c.args.first.now (from_each (own_faults d (has_name c.args.allowed.now)) xs))
     (ap seen c.as_slice.ensures.value ∙ (c.in_ok-types_within.ensures ∙ ap (λ ys. seen ys ++ types_within c.args.t.now) c.new-within.ensures.items)))
     c.note_each.ensures

@@ -1,18 +1,14 @@
-use Rattle.std.proofs.Common.{◌≡◌, ◌∙◌, ◌++◌, ◌∷◌, [], refl}
+use Rattle.std.proofs.Common.{◌∙◌}
 use Rattle.indexmap.proofs.CallerLemmas.{insert_entry-new}
-use Rattle.type_checks.proofs.RecordLookups.{is_under, is-none, there-already, one-more, named-more}
+use Rattle.type_checks.specs.NameSets.{has_name}
+use Rattle.type_checks.proofs.RecordLookups.{is_under, is-none, there-already, one-more}
 use Rattle.type_checks.proofs.record_table.RecordTable.insert.Goals as goal
 
-added : (c : goal.In_ok-insert) → c.insert.new.self.entries ≡ c.self.inside.declarations.entries ++ (c.as_slice-name.result, c.args.declaration) ∷ []
-added c =
-    c.in_ok-insert.ensures.entries
-    ∙ insert_entry-new (λ k. is_under k.now) c.self.inside.declarations c.as_slice-name.result c.args.declaration (is-none _ c.contains_key.result c.contains_key.ensures c.if-not-contains_key.true)
-
-pub invariant_of-self : goal.invariant_of-self
-invariant_of-self c = named-more c.self.inside.declarations.entries c.insert.new.self.entries c.as_slice-name.result c.args.declaration c.as_slice-name.ensures c.self.invariant (added c)
-
 pub returns-in_ok-insert : goal.returns-in_ok-insert
-returns-in_ok-insert c = one-more c.as_slice-name.result.now c.args.declaration.now c.as_slice-name.ensures c.self.inside.declarations.entries c.args.self.now c.self.view_is c.self.invariant c.as_slice-name.result c.args.declaration c.insert.new.self.entries refl (added c)
+returns-in_ok-insert c =
+    one-more c.as_slice-key.result c.args.name.now c.args.fields c.args.self.now.sets.entries c.insert.new.self.entries c.as_slice-key.ensures
+    (c.in_ok-insert.ensures.entries
+    ∙ insert_entry-new (λ k. is_under k.now) c.args.self.now.sets c.as_slice-key.result c.args.fields (is-none _ c.contains_key.result c.contains_key.ensures c.if-not-contains_key.true))
 
 pub returns-else-not-contains_key : goal.returns-else-not-contains_key
-returns-else-not-contains_key c = there-already c.as_slice-name.result.now c.args.declaration.now c.as_slice-name.ensures c.self.inside.declarations.entries c.args.self.now c.self.view_is c.self.invariant c.contains_key.result c.contains_key.ensures c.if-not-contains_key.false
+returns-else-not-contains_key c = there-already c.as_slice-key.result.now c.args.name.now c.args.self.now.sets.entries (has_name c.args.fields) c.contains_key.result c.as_slice-key.ensures c.contains_key.ensures c.if-not-contains_key.false

@@ -1,0 +1,5 @@
+pub mod NewNameLaws
+pub mod SeenNames
+pub mod Fields
+pub mod DeclaredTuples
+pub mod TermsBehind
