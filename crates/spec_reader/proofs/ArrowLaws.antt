@@ -14,26 +14,26 @@ use Rattle.erl_runs.specs.Specs.{and_then, all_present}
 use Rattle.type_rules.specs.Declarations.{Declarations}
 use Rattle.type_rules.specs.TypeVariables.{numbered_from, clause_variables}
 use Rattle.type_rules.specs.SpecTerms.{arrow_holds, arrow_with, held_from, held_in, held_variables, clause_arrow, arrows_from, variables_in}
+use Rattle.type_reader.specs.Collecting as collecting
 use Rattle.spec_reader.specs.Names.{texts}
-use Rattle.spec_reader.specs.Arrows.{more_terms}
 use Rattle.spec_reader.proofs.NameLaws.{texts-more, texts-length}
 
 -- ---- terms
 
-present-push : (os : List (Option Term)) (o : Option Term) → all_present (os ++ o ∷ []) ≡ more_terms (all_present os) o
+present-push : (os : List (Option Term)) (o : Option Term) → all_present (os ++ o ∷ []) ≡ collecting.added (all_present os) o
 present-push [] None = refl
 present-push [] (Some t) = refl
 present-push (p ∷ os) o = ap (λ more. and_then p (λ a. and_then more (λ others. Some (a ∷ others)))) (present-push os o) ∙ go p (all_present os) o
   where
-    go : (p' : Option Term) (q : Option (List Term)) (r : Option Term) → and_then p' (λ a. and_then (more_terms q r) (λ others. Some (a ∷ others))) ≡ more_terms (and_then p' (λ a. and_then q (λ others. Some (a ∷ others)))) r
+    go : (p' : Option Term) (q : Option (List Term)) (r : Option Term) → and_then p' (λ a. and_then (collecting.added q r) (λ others. Some (a ∷ others))) ≡ collecting.added (and_then p' (λ a. and_then q (λ others. Some (a ∷ others)))) r
     go None q r = refl
     go (Some a) None r = refl
     go (Some a) (Some ts) None = refl
     go (Some a) (Some ts) (Some t) = refl
 
-pub terms-more : {A : Type 0} (f : A → Option Term) (xs : List A) (i : ℕ) (x : A) → i < length xs → x ≡ get_or xs i x → (terms new : Option (List Term)) (o : Option Term) → terms ≡ all_present (map f (take i xs)) → o ≡ f x → new ≡ more_terms terms o → new ≡ all_present (map f (take (i + 1) xs))
+pub terms-more : {A : Type 0} (f : A → Option Term) (xs : List A) (i : ℕ) (x : A) → i < length xs → x ≡ get_or xs i x → (terms new : Option (List Term)) (o : Option Term) → terms ≡ all_present (map f (take i xs)) → o ≡ f x → new ≡ collecting.added terms o → new ≡ all_present (map f (take (i + 1) xs))
 terms-more f xs i x lt is terms new o before read added =
-    added ∙ ((λ j. more_terms (before j) ((read ∙ ap f is) j)) ∙ (sym (present-push (map f (take i xs)) (f (get_or xs i x))) ∙ ap all_present (sym (map_more f xs i x lt))))
+    added ∙ ((λ j. collecting.added (before j) ((read ∙ ap f is) j)) ∙ (sym (present-push (map f (take i xs)) (f (get_or xs i x))) ∙ ap all_present (sym (map_more f xs i x lt))))
 
 -- ---- names that an arrow holds
 

@@ -1,5 +1,5 @@
 -- The arrows of clauses by the terms of their types.
-use Rattle.std.specs.Prelude.{List, [], ◌∷◌, ◌++◌, map, Option, Some}
+use Rattle.std.specs.Prelude.{map, Option}
 use Rattle.std.specs.Option.{option_map}
 use Rattle.type_terms.specs.declared.term.Term.{Term}
 use Rattle.type_terms.specs.declared.spec.Arrow.{Arrow}
@@ -7,10 +7,6 @@ use Rattle.erl_tree.specs.declared.token.Node.{Node}
 use Rattle.erl_tree.specs.declared.type_expr.TypeKind.{TypeKind}
 use Rattle.erl_tree.specs.declared.form.SpecClauseKind.{SpecClauseKind}
 use Rattle.erl_runs.specs.Specs.{and_then, all_present}
-
--- one more term behind others, where there are both
-abbrev pub more_terms : Option (List Term) → Option Term → Option (List Term)
-more_terms terms term = and_then terms (λ ts. and_then term (λ t. Some (ts ++ t ∷ [])))
 
 -- the arrow of a clause whose types have these terms
 abbrev pub arrow_by : (Node TypeKind → Option Term) → SpecClauseKind → Option Arrow

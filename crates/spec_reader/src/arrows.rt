@@ -17,7 +17,7 @@ ghost use Rattle.type_tables.specs.Numbers.{KnowsNumbers};
 ghost use Rattle.type_reader.specs.Tables.{terms_in, tuples_in};
 ghost use Rattle.spec_reader.specs.Names.{texts};
 ghost use Rattle.spec_reader.specs.Clause.{AreVariables, Knows};
-ghost use Rattle.spec_reader.specs.Arrows.{arrow_by, more_terms};
+ghost use Rattle.spec_reader.specs.Arrows.{arrow_by};
 
 use crate::clause::ClauseVariables;
 use crate::held::{is_marked, mark_held, mark_in_terms};
@@ -25,26 +25,9 @@ use crate::names::narrow;
 use crate::standing::{Source, standing_terms};
 use erl_tree::{SpecClauseKind, SpecKind, TypeExpr};
 use std::alloc::Global;
-use type_reader::{Reading, TupleTable, read_type};
+use type_reader::{Reading, TupleTable, added, read_type};
 use type_tables::DeclaredNumbers;
 use type_terms::{Arrow, FunSpec, List, NoMemory, Plain, Term, Text};
-
-/// One more term behind others, where there are both.
-fn with_term(terms: Option<List<Term>>, term: Option<Term>) -> Result<Option<List<Term>>, NoMemory>
-    ensures { IfOk result (λ more. more ≡ more_terms terms term) }
-{
-    match terms {
-        None => Ok(None),
-        Some(terms) => match term {
-            None => Ok(None),
-            Some(term) => {
-                let mut terms = terms;
-                terms.push(term)?;
-                Ok(Some(terms))
-            }
-        },
-    }
-}
 
 /// The terms of some type expressions, where each has one.
 fn read_types(reading: &Reading<'_>, types: &[TypeExpr]) -> Result<Option<List<Term>>, NoMemory>
@@ -54,7 +37,7 @@ fn read_types(reading: &Reading<'_>, types: &[TypeExpr]) -> Result<Option<List<T
     let mut terms = Some(List::new(reading.alloc));
     'types: for t in types {
         let term = read_type(reading, t)?;
-        terms = with_term(terms, term)?;
+        terms = added(terms, term)?;
     }
     Ok(terms)
 }

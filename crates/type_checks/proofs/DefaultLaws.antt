@@ -14,8 +14,7 @@ use Rattle.erl_tree.specs.declared.expr.ClauseKind.{ClauseKind}
 use Rattle.erl_tree.specs.declared.expr.ExprKind.TheVariants as X
 use Rattle.erl_tree.specs.declared.expr.ExprKind.TheOpen as E
 use Rattle.erl_tree.specs.declared.expr.ExprKind.TheShapes as S
-use Rattle.type_rules.specs.RecordDefaults.{DefaultPart, may_be, all_defaults, default_layer, default_part}
-use Rattle.type_checks.specs.Defaults.{may_be_default}
+use Rattle.type_rules.specs.RecordDefaults.{DefaultPart, may_be, all_defaults, default_layer, default_part, is_default}
 use Rattle.type_checks.proofs.Rows.{rest_at}
 
 abbrev Level : Type 0
@@ -28,13 +27,13 @@ level_part (E.Unary Minus e) = may_be (default_part e.kind).digits
 level_part (E.Char c) = may_be true
 level_part (E.Atom a) = may_be true
 level_part (E.Str s) = may_be true
-level_part (E.Tuple es) = may_be (list_all may_be_default es)
-level_part (E.Cells es None) = may_be (list_all may_be_default es)
+level_part (E.Tuple es) = may_be (list_all is_default es)
+level_part (E.Cells es None) = may_be (list_all is_default es)
 level_part _ = may_be false
 
-all-are : (es : List (Node ExprKind)) → all_defaults (S.former-ExprKind-Tuple-0.map ExprKind DefaultPart default_part es) ≡ list_all may_be_default es
+all-are : (es : List (Node ExprKind)) → all_defaults (S.former-ExprKind-Tuple-0.map ExprKind DefaultPart default_part es) ≡ list_all is_default es
 all-are [] = refl
-all-are (e ∷ es) = ap (λ b. may_be_default e && b) (all-are es)
+all-are (e ∷ es) = ap (λ b. is_default e && b) (all-are es)
 
 mapped : Level → E.ExprKind-F DefaultPart (Unit {0}) (Unit {0}) (Unit {0}) (Unit {0}) (Unit {0})
 mapped o = map-ExprKind ExprKind ItemKind QualifierKind AssocKind CatchKind ClauseKind DefaultPart (Unit {0}) (Unit {0}) (Unit {0}) (Unit {0}) (Unit {0}) default_part (λ i. tt) (λ q. tt) (λ a. tt) (λ c. tt) (λ c. tt) o
@@ -64,18 +63,18 @@ pub ruleset default_laws = (part-out)
 
 module _ (es : List (Node ExprKind)) where
   abbrev pub AreDefaultsTo : ℕ → Type 0
-  AreDefaultsTo i = list_all may_be_default (drop i es) ≡ list_all may_be_default es
+  AreDefaultsTo i = list_all is_default (drop i es) ≡ list_all is_default es
 
   pub default_next : (i : ℕ) (e : Node ExprKind) (k : ExprKind) (b : Bool) → i < length es → e ≡ get_or es i e → k ≡ e.kind → b ≡ (default_part k).default → b ≡ true → AreDefaultsTo i → AreDefaultsTo (i + 1)
   default_next i e k b lt is kind test holds so_far =
-      ap (λ c. c && list_all may_be_default (drop (i + 1) es)) (sym holds ∙ (test ∙ ap (λ j. (default_part j).default) kind)) ∙ (ap (list_all may_be_default) (sym (rest_at es i e lt is)) ∙ so_far)
+      ap (λ c. c && list_all is_default (drop (i + 1) es)) (sym holds ∙ (test ∙ ap (λ j. (default_part j).default) kind)) ∙ (ap (list_all is_default) (sym (rest_at es i e lt is)) ∙ so_far)
 
-  pub default_not : (i : ℕ) (e : Node ExprKind) (k : ExprKind) (b : Bool) → i < length es → e ≡ get_or es i e → k ≡ e.kind → b ≡ (default_part k).default → b ≡ false → AreDefaultsTo i → false ≡ list_all may_be_default es
+  pub default_not : (i : ℕ) (e : Node ExprKind) (k : ExprKind) (b : Bool) → i < length es → e ≡ get_or es i e → k ≡ e.kind → b ≡ (default_part k).default → b ≡ false → AreDefaultsTo i → false ≡ list_all is_default es
   default_not i e k b lt is kind test fails so_far =
-      ap (λ c. c && list_all may_be_default (drop (i + 1) es)) (sym fails ∙ (test ∙ ap (λ j. (default_part j).default) kind)) ∙ (ap (list_all may_be_default) (sym (rest_at es i e lt is)) ∙ so_far)
+      ap (λ c. c && list_all is_default (drop (i + 1) es)) (sym fails ∙ (test ∙ ap (λ j. (default_part j).default) kind)) ∙ (ap (list_all is_default) (sym (rest_at es i e lt is)) ∙ so_far)
 
-  pub default_last : (i : ℕ) → length es ≤ i → AreDefaultsTo i → true ≡ list_all may_be_default es
-  default_last i end so_far = ap (list_all may_be_default) (sym (drop_all i es end)) ∙ so_far
+  pub default_last : (i : ℕ) → length es ≤ i → AreDefaultsTo i → true ≡ list_all is_default es
+  default_last i end so_far = ap (list_all is_default) (sym (drop_all i es end)) ∙ so_far
 
 -- ---- forms that are known
 
@@ -90,10 +89,10 @@ unary-is k op e is other = by op other ∙ ap (λ (p : DefaultPart). p.default) 
     by Minus h = absurd (h refl)
     by Not h = refl
 
-pub tuple-is : (k : ExprKind) (es : List (Node ExprKind)) → k ≡ X.Tuple es → list_all may_be_default es ≡ (default_part k).default
+pub tuple-is : (k : ExprKind) (es : List (Node ExprKind)) → k ≡ X.Tuple es → list_all is_default es ≡ (default_part k).default
 tuple-is k es is = ap (λ (p : DefaultPart). p.default) (part-is k (X.Tuple es) (E.Tuple es) is (X.outs-Tuple es))
 
-pub list-is : (k : ExprKind) (es : List (Node ExprKind)) (tail : Option (Node ExprKind)) → k ≡ X.Cells es tail → tail ≡ None → list_all may_be_default es ≡ (default_part k).default
+pub list-is : (k : ExprKind) (es : List (Node ExprKind)) (tail : Option (Node ExprKind)) → k ≡ X.Cells es tail → tail ≡ None → list_all is_default es ≡ (default_part k).default
 list-is k es tail is none = ap (λ (p : DefaultPart). p.default) (part-is k (X.Cells es None) (E.Cells es None) (is ∙ ap (X.Cells es) none) (X.outs-Cells es None))
 
 pub barred-is : (k : ExprKind) (es : List (Node ExprKind)) (tail : Option (Node ExprKind)) (e : Node ExprKind) → k ≡ X.Cells es tail → tail ≡ Some e → false ≡ (default_part k).default

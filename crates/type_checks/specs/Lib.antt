@@ -3,7 +3,6 @@ pub mod NameSets
 pub mod Noted
 pub mod Fields
 pub mod Levels
-pub mod Defaults
 pub mod Specs
 pub mod Behind
 pub mod SeenKeys

@@ -2,10 +2,9 @@
 
 ghost use Rattle.std.specs.Prelude.{◌≡◌};
 ghost use Rattle.std.specs.List.{list_all};
-ghost use Rattle.type_rules.specs.RecordDefaults.{default_part};
+ghost use Rattle.type_rules.specs.RecordDefaults.{default_part, is_default};
 ghost use Rattle.type_rules.specs.TypeFaults.{default_faults};
 ghost use Rattle.type_rules.specs.Earliest.{earliest};
-ghost use Rattle.type_checks.specs.Defaults.{may_be_default};
 
 use crate::first::{First, note_unless};
 use erl_tree::{Expr, ExprKind, UnaryOp};
@@ -49,7 +48,7 @@ fn is_default(kind: &ExprKind) -> bool
 /// Whether all of some expressions may be defaults.
 #[cycle(defaults)]
 fn are_defaults(exprs: &[Expr]) -> bool
-    ensures { result ≡ list_all may_be_default exprs.now }
+    ensures { result ≡ list_all is_default exprs.now }
 {
     for expr in exprs {
         if !is_default(expr.kind.get()) {

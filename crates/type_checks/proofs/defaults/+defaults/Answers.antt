@@ -1,7 +1,7 @@
 use Rattle.std.proofs.Common.{◌∙◌, ap, arith}
 use Rattle.std.specs.List.{list_all}
 use Rattle.type_rules.specs.RecordDefaults.{default_part}
-use Rattle.type_checks.specs.Defaults.{may_be_default}
+use Rattle.type_rules.specs.RecordDefaults.{is_default}
 use Rattle.type_checks.proofs.DefaultLaws.{minus-is, unary-is, tuple-is, list-is, barred-is, default_next, default_not, default_last}
 use Rattle.type_checks.proofs.defaults.+defaults.Goals as goal
 
@@ -21,10 +21,10 @@ pub is_default-returns-in_default-op : goal.is_default-returns-in_default-op
 is_default-returns-in_default-op t c = unary-is c.args.kind.now c.in-Unary.op c.in-Unary.of c.in-Unary.is c.in_default-op.not-Minus
 
 pub is_default-returns-in-Tuple : goal.is_default-returns-in-Tuple
-is_default-returns-in-Tuple t c = c.are_defaults.ensures ∙ (ap (list_all may_be_default) c.as_slice.ensures ∙ tuple-is c.args.kind.now c.in-Tuple.elements c.in-Tuple.is)
+is_default-returns-in-Tuple t c = c.are_defaults.ensures ∙ (ap (list_all is_default) c.as_slice.ensures ∙ tuple-is c.args.kind.now c.in-Tuple.elements c.in-Tuple.is)
 
 pub is_default-returns-in-None : goal.is_default-returns-in-None
-is_default-returns-in-None t c = c.are_defaults-in-None.ensures ∙ (ap (list_all may_be_default) c.as_slice-in-None.ensures ∙ list-is c.args.kind.now c.in-Cells.elements c.in-Cells.tail c.in-Cells.is c.in-None.is)
+is_default-returns-in-None t c = c.are_defaults-in-None.ensures ∙ (ap (list_all is_default) c.as_slice-in-None.ensures ∙ list-is c.args.kind.now c.in-Cells.elements c.in-Cells.tail c.in-Cells.is c.in-None.is)
 
 pub is_default-returns-in-Some : goal.is_default-returns-in-Some
 is_default-returns-in-Some t c = barred-is c.args.kind.now c.in-Cells.elements c.in-Cells.tail _ c.in-Cells.is c.in-Some.is
