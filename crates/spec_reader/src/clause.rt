@@ -3,7 +3,7 @@
 ghost use Rattle.std.specs.Prelude.{◌≡◌, ◌++◌, map, IfOk, OnOk};
 ghost use Rattle.std.specs.List.{filter_map};
 ghost use Rattle.type_rules.specs.TypeParts.{from_each, types_within};
-ghost use Rattle.type_rules.specs.TypeVariables.{clause_occurrences, clause_types, own_variable as own_variables, variables_of};
+ghost use Rattle.type_rules.specs.TypeVariables.{clause_occurrences, own_variable as own_variables, variables_of};
 ghost use Rattle.type_rules.specs.Bounds.{bounded, bound_graph};
 ghost use Rattle.type_tables.specs.Seen.{seen};
 ghost use Rattle.spec_reader.specs.Names.{number_of, texts};

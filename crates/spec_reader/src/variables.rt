@@ -1,6 +1,6 @@
 //! The variables of type expressions.
 
-ghost use Rattle.std.specs.Prelude.{◌≡◌, [], ◌∷◌, ◌++◌, List, IfOk, OnOk};
+ghost use Rattle.std.specs.Prelude.{◌≡◌, [], ◌∷◌, ◌++◌, List, OnOk};
 ghost use Rattle.std.specs.Option.{option_copied};
 ghost use Rattle.type_terms.specs.Keys.{Name};
 ghost use Rattle.erl_runs.specs.Names.{is_wildcard as is_wildcard_name};
