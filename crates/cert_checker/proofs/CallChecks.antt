@@ -14,7 +14,7 @@ use Rattle.erl_tree.specs.declared.token.Place.{Place}
 use Rattle.erl_tree.specs.Lists.{Every, Among}
 use Rattle.erl_tree.specs.Functions.{of_function}
 use Rattle.erl_runs.specs.Membership.{arrows_of}
-use Rattle.function_table.specs.Table.{ids}
+use Rattle.name_table.specs.Table.{ids}
 use Rattle.cert_checker.specs.declared.refusal.FirstRefusal.{FirstRefusal}
 use Rattle.cert_checker.specs.declared.refusal.FirstRefusal.TheVariants.{NoMemory, Failed}
 use Rattle.cert_checker.specs.declared.refusal.Shown.TheVariants.{One, Missing}

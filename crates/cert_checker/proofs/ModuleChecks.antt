@@ -17,7 +17,7 @@ use Rattle.erl_tree.specs.Functions.{functions_of, clauses_arity, of_function}
 use Rattle.flat_modules.specs.FlatSpecs.{specs_of}
 use Rattle.erl_runs.specs.Membership.{arrows_of}
 use Rattle.flat_modules.specs.FlatModules.{IsFlatModule}
-use Rattle.function_table.specs.Table.{ids}
+use Rattle.name_table.specs.Table.{ids}
 use Rattle.cert_checker.specs.declared.refusal.FirstRefusal.{FirstRefusal}
 use Rattle.cert_checker.specs.declared.spec_table.FunctionTypes.{FunctionTypes}
 use Rattle.cert_checker.specs.declared.spec_table.FormTypes.{FormTypes}

@@ -30,8 +30,8 @@ use Rattle.erl_tree.specs.declared.form.Module.{Module}
 use Rattle.erl_tree.specs.Lists.{Every, Among}
 use Rattle.erl_tree.specs.Functions.{of_function, function_id, functions_of, function_ids, clauses_arity, find_function, FunctionId}
 use Rattle.erl_runs.specs.Specs.{and_then, one_integer, specs_in, spec_id}
-use Rattle.type_rules.specs.declared.specs.Specs.{Specs}
-use Rattle.type_rules.specs.SpecTerms.{module_specs}
+use Rattle.typespecs_rules.specs.declared.specs.Specs.{Specs}
+use Rattle.typespecs_rules.specs.SpecTerms.{module_specs}
 use Rattle.flat_modules.specs.FlatSpecs.{specs_of}
 use Rattle.flat_modules.specs.Grammar.{IsExpr, one_product, sum, IsProduct, one_operand, product, IsOperand, AreArguments, no_arguments, last_argument, more_arguments, IsAdditive, IsPattern, is_pattern_layer, IsBody}
 use Rattle.flat_modules.specs.Grammar as G

@@ -37,13 +37,13 @@ use Rattle.erl_grammar.proofs.NestingLaws.{pattern_kind_deep-Var, expr_deep_laws
 use Rattle.erl_grammar.proofs.TypeNestingLaws.{type_deep_laws}
 use Rattle.erl_runs.specs.Specs.{and_then, all_present, spec_id}
 use Rattle.flat_modules.specs.FlatSpecs.{type_term, clause_arrow, arrows_arity, function_spec, read_specs, specs_of, module_specs_of, HasFlatSpecs}
-use Rattle.type_rules.specs.TypeParts.{from_each}
-use Rattle.type_rules.specs.TypeFaults.{listed_faults, IsWellSignedArrow}
-use Rattle.type_rules.proofs.TypeRuleLaws.{inside_equations}
-use Rattle.scope_rules.specs.ScopeFaults.{HasRightNames}
-use Rattle.scope_rules.proofs.OccurrenceLaws.{variables_equations, part_equations}
-use Rattle.scope_rules.proofs.FaultLaws.{pattern_fault_equations, fault_equations}
-use Rattle.readable_modules.specs.Readable.{IsReadable}
+use Rattle.typespecs_rules.specs.TypeParts.{from_each}
+use Rattle.typespecs_rules.specs.TypeFaults.{listed_faults, IsWellSignedArrow}
+use Rattle.typespecs_rules.proofs.TypeRuleLaws.{inside_equations}
+use Rattle.erl_scope_rules.specs.ScopeFaults.{HasRightNames}
+use Rattle.erl_scope_rules.proofs.OccurrenceLaws.{variables_equations, part_equations}
+use Rattle.erl_scope_rules.proofs.FaultLaws.{pattern_fault_equations, fault_equations}
+use Rattle.text_reader_rules.specs.Readable.{IsReadable}
 use Rattle.flat_modules.specs.FlatNames.{called_in}
 use Rattle.erl_tree.specs.Functions.{FunctionId, of_function, functions_of}
 use Rattle.flat_modules.specs.FlatModules.{IsFlatModule}

@@ -24,7 +24,7 @@ use Rattle.flat_modules.specs.Grammar.{IsSpec, IsSpecClause}
 use Rattle.flat_modules.specs.FlatModules.{IsFlatModule}
 use Rattle.flat_modules.proofs.FlatLaws.{flat-formed, flat-names}
 use Rattle.erl_runs.specs.Membership.{arrows_if, arrows_of}
-use Rattle.function_table.specs.Table.{Entry, ids, IsInsertion}
+use Rattle.name_table.specs.Table.{Entry, ids, IsInsertion}
 use Rattle.cert_checker.specs.SpecTables.{HoldsSpecs, Adds, IsFirstArrow, IsArrowAt}
 use Rattle.cert_checker.proofs.Lists.{every-at, among-map, then-some, none-some, some-inj}
 use Rattle.cert_checker.proofs.Parts.{HasOneArrow, one-arrow-each, arrow-arity, well_formed-forms, forms-specs, spec-clause, arrow-spec}

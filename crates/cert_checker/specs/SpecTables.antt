@@ -10,7 +10,7 @@ use Rattle.erl_tree.specs.Lists.{Every, Among}
 use Rattle.erl_tree.specs.Functions.{FunctionId}
 use Rattle.erl_runs.specs.Specs.{and_then, all_present, specified_id}
 use Rattle.flat_modules.specs.FlatSpecs.{type_term, clause_arrow}
-use Rattle.function_table.specs.Table.{Entry, ids}
+use Rattle.name_table.specs.Table.{Entry, ids}
 use Rattle.cert_checker.specs.declared.spec_table.FunctionTypes.{FunctionTypes}
 use Rattle.cert_checker.specs.declared.spec_table.FormTypes.{FormTypes}
 use Rattle.cert_checker.specs.declared.spec_table.FormTypes.TheVariants.{Spec}

@@ -1,7 +1,7 @@
 ghost use Rattle.std.specs.Prelude.{◌≡◌, ◌+◌, ◌<◌, ℕ, Some, [], ◌∷◌, length, slice_get, OnOk, IfOk, IfErr};
 ghost use Rattle.erl_tree.specs.Lists.{Every, Among};
 ghost use Rattle.erl_tree.specs.Functions.{functions_in, functions_of, clauses_arity};
-ghost use Rattle.type_rules.specs.SpecTerms.{module_specs};
+ghost use Rattle.typespecs_rules.specs.SpecTerms.{module_specs};
 ghost use Rattle.flat_modules.specs.FlatSpecs.{specs_of};
 ghost use Rattle.flat_modules.specs.FlatModules.{IsFlatModule};
 ghost use Rattle.erl_runs.specs.Membership.{arrows_of};
@@ -15,7 +15,7 @@ use crate::refusal::FirstRefusal;
 use crate::spec_table::{SpecTable, spec_table};
 use erl_tree::{Function, Module, TreeForm};
 use std::alloc::Global;
-use type_rules::Specs;
+use typespecs_rules::Specs;
 
 /// Checks that a flat module with these specs is safe: that operands are integers, that calls are within
 /// the specs of the functions that are called, and that the body of each function is within the result of

@@ -16,6 +16,3 @@ mod variables;
 
 pub use checks::check_first;
 pub use refusal::{FirstRefusal, Shown};
-
-#[cfg(test)]
-mod tests;

@@ -11,8 +11,8 @@ ghost use Rattle.cert_checker.specs.SpecTables.{HoldsSpecs, Adds, IsFirstArrow, 
 
 use crate::flat_type::set_of_type;
 use erl_tree::{SpecClause, SpecClauseKind, TreeForm, TypeExpr};
-use function_table::FunctionTable;
 use key_sets::KeySet;
+use name_table::NameTable;
 use std::alloc::Global;
 use type_terms::{List, NoMemory};
 
@@ -34,7 +34,7 @@ pub enum FormTypes {
 #[derive(Drop)]
 pub struct SpecTable {
     /// The place of each spec among the forms.
-    pub places: FunctionTable,
+    pub places: NameTable,
     /// The sets of each form.
     pub types: List<FormTypes>,
 }
@@ -68,10 +68,10 @@ pub fn spec_table(alloc: Global, forms: &List<TreeForm>) -> Result<SpecTable, No
 }
 
 /// The place of each spec among the forms.
-fn spec_places(alloc: Global, forms: &List<TreeForm>) -> Result<FunctionTable, NoMemory>
+fn spec_places(alloc: Global, forms: &List<TreeForm>) -> Result<NameTable, NoMemory>
     ensures { IfOk result (HoldsSpecs forms.now (length forms.now)) }
 {
-    let mut table = FunctionTable::new(alloc);
+    let mut table = NameTable::new(alloc);
     for (at, form) in forms.as_slice().iter().enumerate() {
         add_form(alloc, &mut table, form, at)?;
     }
@@ -80,7 +80,7 @@ fn spec_places(alloc: Global, forms: &List<TreeForm>) -> Result<FunctionTable, N
 
 fn add_form(
     alloc: Global,
-    table: &mut FunctionTable,
+    table: &mut NameTable,
     form: &TreeForm,
     at: usize,
 ) -> Result<(), NoMemory>

@@ -54,6 +54,3 @@ impl From<NoMemory> for LexFault {
         LexFault::NoMemory
     }
 }
-
-#[cfg(test)]
-mod tests;

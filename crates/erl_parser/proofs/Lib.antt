@@ -1,1 +1,12 @@
+pub mod AttributeParts
+pub mod ItemLoops
+pub mod FormLoops
+pub mod ItemsLaws
+pub mod FormTokens
+pub mod AttributeLaws
+pub mod RecordLaws
+pub mod SpecLaws
+pub mod FunctionLaws
+pub mod FormLaws
+pub mod WholeModules
 pub mod TextLaws

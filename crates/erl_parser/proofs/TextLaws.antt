@@ -12,7 +12,7 @@ use Rattle.erl_tree.proofs.Spelled.{bytes_spell_one}
 use Rattle.erl_grammar.specs.FormSpelling.{module_tokens}
 use Rattle.erl_grammar.specs.FormGrammar.{IsModule}
 use Rattle.erl_grammar.specs.Texts.{SpellsModule}
-use Rattle.form_parser.proofs.WholeModules as whole
+use Rattle.erl_parser.proofs.WholeModules as whole
 
 -- the tokens of a module that the bytes spell are the ones that they spell
 pub same_tokens : (bytes : List ℕ) (tokens : List Placed) (m : Module) → SpellsTokens bytes tokens → SpellsModule bytes m → module_tokens m ≡ tokens

@@ -3,14 +3,14 @@ use Rattle.std.proofs.Common.{◌≡◌, ◌∙◌, refl, sym, ap, subst, ℕ, L
 use Rattle.std.specs.Prelude.{IfSome}
 use Rattle.std.proofs.lemmas.List.{append-nil}
 use Rattle.erl_tree.specs.declared.form.Module.{Module}
-use Rattle.scope_rules.specs.declared.fault.PlacedFault.{PlacedFault}
-use Rattle.scope_rules.specs.declared.resolved.Resolved.{Resolved}
-use Rattle.scope_rules.specs.Occurrences.{Occurrence, occurrences_of}
-use Rattle.scope_rules.specs.Bindings.{innermost}
-use Rattle.scope_rules.specs.Resolution.{all_resolved_in, resolved_of}
-use Rattle.scope_rules.specs.ScopeFaults.{at, role_fault, stands_among, faults_of_each, faults_of_optional, occurrence_faults, forms_faults, faults_of, HasRightNames, IsFirstFault}
-use Rattle.scope_rules.specs.Earliest.{earliest}
-use Rattle.scope_rules.proofs.EarliestLaws.{earliest-append, earliest-stands, earliest-first, earliest-none}
+use Rattle.erl_scope_rules.specs.declared.fault.PlacedFault.{PlacedFault}
+use Rattle.erl_scope_rules.specs.declared.resolved.Resolved.{Resolved}
+use Rattle.erl_scope_rules.specs.Occurrences.{Occurrence, occurrences_of}
+use Rattle.erl_scope_rules.specs.Bindings.{innermost}
+use Rattle.erl_scope_rules.specs.Resolution.{all_resolved_in, resolved_of}
+use Rattle.erl_scope_rules.specs.ScopeFaults.{at, role_fault, stands_among, faults_of_each, faults_of_optional, occurrence_faults, forms_faults, faults_of, HasRightNames, IsFirstFault}
+use Rattle.erl_scope_rules.specs.Earliest.{earliest}
+use Rattle.erl_scope_rules.proofs.EarliestLaws.{earliest-append, earliest-stands, earliest-first, earliest-none}
 use Rattle.erl_scope.specs.declared.fault.ScopeFault.{ScopeFault}
 use Rattle.erl_scope.specs.FaultPlaces.{placed_fault}
 use Rattle.erl_scope.specs.Outcomes.{listed, faults_of_outcomes}

@@ -1,8 +1,8 @@
 -- The first of the faults in two lists is the first of the two lists' first faults.
 use Rattle.std.proofs.Common.{◌≡◌, refl, sym, ap, ◌∙◌, List, [], ◌∷◌, Bool, true, false, cond, Option, Some, None}
-use Rattle.scope_rules.specs.declared.fault.PlacedFault.{PlacedFault}
-use Rattle.scope_rules.specs.ScopeFaults.{is_earlier}
-use Rattle.scope_rules.specs.Earliest.{earlier, earliest}
+use Rattle.erl_scope_rules.specs.declared.fault.PlacedFault.{PlacedFault}
+use Rattle.erl_scope_rules.specs.ScopeFaults.{is_earlier}
+use Rattle.erl_scope_rules.specs.Earliest.{earlier, earliest}
 use Rattle.erl_scope.specs.Outcomes.{listed}
 use Rattle.erl_scope.proofs.FaultOrder.{earlier_through, not_earlier_through}
 

@@ -1,8 +1,8 @@
 -- A module has at most one first fault.
 use Rattle.std.proofs.Common.{◌≡◌, false}
 use Rattle.erl_tree.specs.declared.form.Module.{Module}
-use Rattle.scope_rules.specs.declared.fault.PlacedFault.{PlacedFault}
-use Rattle.scope_rules.specs.ScopeFaults.{is_earlier, faults_of, IsFirstFault}
+use Rattle.erl_scope_rules.specs.declared.fault.PlacedFault.{PlacedFault}
+use Rattle.erl_scope_rules.specs.ScopeFaults.{is_earlier, faults_of, IsFirstFault}
 use Rattle.erl_grammar.proofs.Layers.{each}
 use Rattle.erl_scope.proofs.FaultOrder.{neither_earlier}
 

@@ -1,9 +1,9 @@
 -- The fault of a module's names that an answer tells, with its place.
 use Rattle.std.specs.Prelude.{Option, Some, None}
 use Rattle.erl_tree.specs.declared.token.Place.{Place}
-use Rattle.scope_rules.specs.declared.fault.NameFault.{NameFault}
-use Rattle.scope_rules.specs.declared.fault.NameFault.TheVariants as kinds
-use Rattle.scope_rules.specs.declared.fault.PlacedFault.{PlacedFault}
+use Rattle.erl_scope_rules.specs.declared.fault.NameFault.{NameFault}
+use Rattle.erl_scope_rules.specs.declared.fault.NameFault.TheVariants as kinds
+use Rattle.erl_scope_rules.specs.declared.fault.PlacedFault.{PlacedFault}
 use Rattle.erl_scope.specs.declared.fault.ScopeFault.{ScopeFault}
 use Rattle.erl_scope.specs.declared.fault.ScopeFault.TheVariants.{NoMemory, Unbound, Unsafe, NoSuchFunction, TwoFunctions, NoSpec, NoSuchRecord, NoSuchField, Repeated, ArityDiffers}
 

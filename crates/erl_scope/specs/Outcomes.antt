@@ -1,8 +1,8 @@
 -- The faults of variables, by what became of them.
 use Rattle.std.specs.Prelude.{List, [], ◌∷◌, Option, Some, None}
-use Rattle.scope_rules.specs.declared.fault.PlacedFault.{PlacedFault}
-use Rattle.scope_rules.specs.declared.resolved.Resolved.{Resolved}
-use Rattle.scope_rules.specs.ScopeFaults.{at, faults_of_each, faults_of_optional}
+use Rattle.erl_scope_rules.specs.declared.fault.PlacedFault.{PlacedFault}
+use Rattle.erl_scope_rules.specs.declared.resolved.Resolved.{Resolved}
+use Rattle.erl_scope_rules.specs.ScopeFaults.{at, faults_of_each, faults_of_optional}
 
 -- the fault of a variable, at its place
 abbrev pub outcome_faults : Resolved → List PlacedFault

@@ -3,8 +3,8 @@
 ghost use Rattle.std.specs.Prelude.{◌≡◌, Some};
 ghost use Rattle.erl_scope.specs.FaultPlaces.{placed_fault};
 
+use erl_scope_rules::{NameFault, PlacedFault};
 use erl_tree::Place;
-use scope_rules::{NameFault, PlacedFault};
 use type_terms::NoMemory;
 
 /// Why the names of a module are refused: the first fault in the text, at its place, and of two at one place

@@ -1,10 +1,10 @@
 //! The first of some faults.
 
 ghost use Rattle.std.specs.Prelude.{◌≡◌, None};
-ghost use Rattle.scope_rules.specs.Earliest.{earliest};
+ghost use Rattle.erl_scope_rules.specs.Earliest.{earliest};
 ghost use Rattle.erl_scope.specs.Outcomes.{listed, outcome_faults, faults_of_outcomes};
 
-use scope_rules::{PlacedFault, Resolved, is_earlier};
+use erl_scope_rules::{PlacedFault, Resolved, is_earlier};
 
 /// The first of the fault that stands and a new one. The one that stands, where neither is earlier.
 pub(crate) fn first_of(

@@ -2,9 +2,9 @@
 
 ghost use Rattle.std.specs.Prelude.{◌≡◌, ◌↔◌, None};
 ghost use Rattle.erl_tree.specs.declared.form.Module.{Module};
-ghost use Rattle.scope_rules.specs.declared.fault.PlacedFault.{PlacedFault as Fault};
-ghost use Rattle.scope_rules.specs.Earliest.{earliest};
-ghost use Rattle.scope_rules.specs.ScopeFaults.{faults_of, HasRightNames, IsFirstFault};
+ghost use Rattle.erl_scope_rules.specs.declared.fault.PlacedFault.{PlacedFault as Fault};
+ghost use Rattle.erl_scope_rules.specs.Earliest.{earliest};
+ghost use Rattle.erl_scope_rules.specs.ScopeFaults.{faults_of, HasRightNames, IsFirstFault};
 
 /// Nothing is wrong with the names of a module exactly where it has no first fault: there `resolve` may
 /// answer `Ok`, and only there.

@@ -1,7 +1,6 @@
 //! The names of a module: what is wrong with them, or else the numbers of its variables.
 #![tactic(auto)]
 
-pub mod examples;
 mod fault;
 mod first;
 pub mod laws;

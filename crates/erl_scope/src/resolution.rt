@@ -1,21 +1,21 @@
 //! The names of a whole module.
 
 ghost use Rattle.std.specs.Prelude.{◌≡◌, None, IfErr, IfOk, IfSome, OnOk};
-ghost use Rattle.scope_rules.specs.Earliest.{earliest};
-ghost use Rattle.scope_rules.specs.Resolution.{resolved_of};
-ghost use Rattle.scope_rules.specs.ScopeFaults.{faults_of, HasRightNames, IsFirstFault};
-ghost use Rattle.variable_numbers.specs.Table.{IsTableOf};
+ghost use Rattle.erl_scope_rules.specs.Earliest.{earliest};
+ghost use Rattle.erl_scope_rules.specs.Resolution.{resolved_of};
+ghost use Rattle.erl_scope_rules.specs.ScopeFaults.{faults_of, HasRightNames, IsFirstFault};
+ghost use Rattle.erl_scope_numbers.specs.Table.{IsTableOf};
 ghost use Rattle.erl_scope.specs.FaultPlaces.{placed_fault};
 
 use crate::fault::{ScopeFault, answer_for};
 use crate::first::{first_of, first_of_variables};
+use erl_scope_faults::first_name_fault;
+use erl_scope_numbers::Scopes;
+use erl_scope_rules::{PlacedFault, Resolved};
+use erl_scope_variables::resolve_variables;
 use erl_tree::Module;
-use name_checks::first_name_fault;
-use scope_rules::{PlacedFault, Resolved};
 use std::alloc::Global;
 use type_terms::NoMemory;
-use variable_numbers::Scopes;
-use variable_scopes::resolve_variables;
 
 /// The first fault of a module, by what became of its variables.
 fn first_fault(

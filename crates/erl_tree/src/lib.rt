@@ -21,6 +21,3 @@ pub use form::{
 pub use pattern::{Literal, LiteralKind, Pattern, PatternKind};
 pub use token::{Node, Place, Placed, Token};
 pub use type_expr::{MapPart, TypeExpr, TypeKind};
-
-#[cfg(test)]
-mod tests;

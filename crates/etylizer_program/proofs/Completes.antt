@@ -6,20 +6,20 @@ use Rattle.erl_tree.specs.declared.token.Placed.{Placed}
 use Rattle.erl_grammar.specs.FormSpelling.{module_tokens}
 use Rattle.erl_grammar.specs.Nesting.{nesting_limit}
 use Rattle.erl_grammar.specs.FormNesting.{module_deep}
-use Rattle.scope_rules.specs.declared.fault.NameFault.TheVariants as N
-use Rattle.scope_rules.specs.declared.fault.PlacedFault.{PlacedFault}
-use Rattle.scope_rules.specs.ScopeFaults.{faults_of, HasRightNames, IsFirstFault as IsFirstNameFault}
-use Rattle.type_rules.specs.declared.fault.TypeFault.TheVariants as T
-use Rattle.type_rules.specs.declared.fault.PlacedFault.{PlacedFault as TypePlacedFault}
-use Rattle.type_rules.specs.TypeFaults.{IsFirstFault as IsFirstSpecFault, fault_at}
-use Rattle.type_laws.proofs.FirstFault.{one-first, no-first}
+use Rattle.erl_scope_rules.specs.declared.fault.NameFault.TheVariants as N
+use Rattle.erl_scope_rules.specs.declared.fault.PlacedFault.{PlacedFault}
+use Rattle.erl_scope_rules.specs.ScopeFaults.{faults_of, HasRightNames, IsFirstFault as IsFirstNameFault}
+use Rattle.typespecs_rules.specs.declared.fault.TypeFault.TheVariants as T
+use Rattle.typespecs_rules.specs.declared.fault.PlacedFault.{PlacedFault as TypePlacedFault}
+use Rattle.typespecs_rules.specs.TypeFaults.{IsFirstFault as IsFirstSpecFault, fault_at}
+use Rattle.typespecs_lemmas.proofs.FirstFault.{one-first, no-first}
 use Rattle.typespecs.specs.FaultPlaces.{placed_fault as placed_spec_fault}
-use Rattle.readable_modules.specs.Readable.{IsReadable}
+use Rattle.text_reader_rules.specs.Readable.{IsReadable}
 use Rattle.erl_scope.specs.FaultPlaces.{placed_fault}
 use Rattle.erl_scope.proofs.OneFirst.{IsFirstFault-same}
 use Rattle.flat_modules.specs.FlatModules.{IsFlatModule}
-use Rattle.token_readers.specs.declared.fault.ParseFault.{ParseFault}
-use Rattle.token_readers.specs.declared.fault.ParseFault.TheVariants as P
+use Rattle.erl_parser_tokens.specs.declared.fault.ParseFault.{ParseFault}
+use Rattle.erl_parser_tokens.specs.declared.fault.ParseFault.TheVariants as P
 use Rattle.erl_parser.proofs.TextLaws.{one_module}
 use Rattle.etylizer_program.proofs.Verdicts.{spells}
 use Rattle.erl_tree.specs.Profile.{IsLexed}

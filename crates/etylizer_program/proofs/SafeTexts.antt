@@ -7,10 +7,10 @@ use Rattle.erl_tree.proofs.TextExamples.{dollar_spells_nothing}
 use Rattle.erl_grammar.specs.FormSpelling.{module_tokens}
 use Rattle.erl_grammar.specs.Texts.{SpellsModule}
 use Rattle.flat_modules.proofs.SmallExamples.{no-functions}
-use Rattle.type_rules.specs.declared.specs.Specs.{Specs}
-use Rattle.readable_modules.specs.Readable.{IsReadable}
+use Rattle.typespecs_rules.specs.declared.specs.Specs.{Specs}
+use Rattle.text_reader_rules.specs.Readable.{IsReadable}
 use Rattle.erl_runs.specs.Safety.{IsSafe}
-use Rattle.readable_modules.specs.SafeTexts.{IsSafeText}
+use Rattle.text_reader_rules.specs.SafeTexts.{IsSafeText}
 use Rattle.erl_runs.proofs.TextExamples.{small_module_spelled}
 use Rattle.erl_parser.proofs.TextLaws.{one_module}
 

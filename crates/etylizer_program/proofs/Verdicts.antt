@@ -6,8 +6,8 @@ use Rattle.erl_tree.specs.declared.token.Place.{Place}
 use Rattle.type_terms.specs.declared.spec.Kind.{Kind}
 use Rattle.erl_tree.specs.Functions.{functions_in, functions_of}
 use Rattle.erl_runs.specs.Specs.{specs_in}
-use Rattle.type_rules.specs.declared.specs.Specs.{Specs}
-use Rattle.type_rules.specs.SpecTerms.{module_specs}
+use Rattle.typespecs_rules.specs.declared.specs.Specs.{Specs}
+use Rattle.typespecs_rules.specs.SpecTerms.{module_specs}
 use Rattle.erl_tree.specs.declared.token.Placed.{Placed}
 use Rattle.erl_tree.specs.Lists.{Among}
 use Rattle.erl_grammar.specs.FormSpelling.{module_tokens}
@@ -18,13 +18,13 @@ use Rattle.erl_grammar.specs.Texts.{SpellsModule, HasIntegersInLimit}
 use Rattle.flat_modules.proofs.FlatLaws.{flat-formed}
 use Rattle.erl_tree.specs.Profile.{IsLexed}
 use Rattle.erl_tree.proofs.Lexed.{lexed_is_spelled}
-use Rattle.token_readers.specs.declared.fault.ParseFault.{ParseFault}
-use Rattle.token_readers.specs.declared.fault.ParseFault.TheVariants as P
-use Rattle.token_readers.specs.Outside.{HasOutside}
+use Rattle.erl_parser_tokens.specs.declared.fault.ParseFault.{ParseFault}
+use Rattle.erl_parser_tokens.specs.declared.fault.ParseFault.TheVariants as P
+use Rattle.erl_parser_tokens.specs.Outside.{HasOutside}
 use Rattle.erl_parser.proofs.TextLaws.{one_module, lexed_in_limit}
 use Rattle.flat_modules.specs.FlatModules.{IsFlatModule}
 use Rattle.erl_runs.specs.Safety.{IsSafe}
-use Rattle.readable_modules.specs.SafeTexts.{IsSafeText}
+use Rattle.text_reader_rules.specs.SafeTexts.{IsSafeText}
 use Rattle.cert_checker.specs.Failures.{MeetsConstraints, ShowsFirstFailure}
 use Rattle.cert_checker.specs.declared.refusal.FirstRefusal.{FirstRefusal}
 use Rattle.cert_checker.specs.declared.refusal.FirstRefusal.TheVariants as F

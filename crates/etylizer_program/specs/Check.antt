@@ -15,33 +15,33 @@ use Rattle.erl_grammar.specs.FormGrammar.{IsModule}
 use Rattle.erl_grammar.specs.FormNesting.{module_deep, IsModuleWithin}
 use Rattle.erl_grammar.specs.Nesting.{nesting_limit}
 use Rattle.erl_grammar.specs.Texts.{SpellsModule}
-use Rattle.token_readers.specs.declared.fault.ParseFault.{ParseFault}
-use Rattle.token_readers.specs.declared.fault.ParseFault.TheVariants as P
-use Rattle.token_readers.specs.Outside.{HasOutside}
+use Rattle.erl_parser_tokens.specs.declared.fault.ParseFault.{ParseFault}
+use Rattle.erl_parser_tokens.specs.declared.fault.ParseFault.TheVariants as P
+use Rattle.erl_parser_tokens.specs.Outside.{HasOutside}
 use Rattle.erl_tree.specs.Profile.{IsLexed}
 use Rattle.erl_lexer.specs.declared.LexFault.{LexFault}
 use Rattle.erl_lexer.specs.declared.LexFault.TheVariants as L
 use Rattle.erl_lexer.specs.Faults.{IsFault}
 use Rattle.erl_tree.specs.Lists.{Every, Among}
-use Rattle.scope_rules.specs.declared.fault.NameFault.{NameFault}
-use Rattle.scope_rules.specs.declared.fault.NameFault.TheVariants as N
-use Rattle.scope_rules.specs.declared.fault.PlacedFault.{PlacedFault}
-use Rattle.scope_rules.specs.ScopeFaults.{HasRightNames, IsFirstFault as IsFirstNameFault}
-use Rattle.type_rules.specs.declared.fault.TypeFault.{TypeFault}
-use Rattle.type_rules.specs.declared.fault.TypeFault.TheVariants as T
-use Rattle.type_rules.specs.declared.fault.Outside.{Outside}
-use Rattle.type_rules.specs.declared.fault.PlacedFault.{PlacedFault as TypePlacedFault}
-use Rattle.type_rules.specs.declared.specs.Specs.{Specs}
-use Rattle.type_rules.specs.SpecTerms.{module_specs}
-use Rattle.type_rules.specs.TypeFaults.{IsFirstFault as IsFirstSpecFault, fault_at, outside_words}
+use Rattle.erl_scope_rules.specs.declared.fault.NameFault.{NameFault}
+use Rattle.erl_scope_rules.specs.declared.fault.NameFault.TheVariants as N
+use Rattle.erl_scope_rules.specs.declared.fault.PlacedFault.{PlacedFault}
+use Rattle.erl_scope_rules.specs.ScopeFaults.{HasRightNames, IsFirstFault as IsFirstNameFault}
+use Rattle.typespecs_rules.specs.declared.fault.TypeFault.{TypeFault}
+use Rattle.typespecs_rules.specs.declared.fault.TypeFault.TheVariants as T
+use Rattle.typespecs_rules.specs.declared.fault.Outside.{Outside}
+use Rattle.typespecs_rules.specs.declared.fault.PlacedFault.{PlacedFault as TypePlacedFault}
+use Rattle.typespecs_rules.specs.declared.specs.Specs.{Specs}
+use Rattle.typespecs_rules.specs.SpecTerms.{module_specs}
+use Rattle.typespecs_rules.specs.TypeFaults.{IsFirstFault as IsFirstSpecFault, fault_at, outside_words}
 use Rattle.typespecs.specs.declared.fault.SpecFault.{SpecFault}
 use Rattle.typespecs.specs.FaultPlaces.{placed_fault as placed_spec_fault}
-use Rattle.readable_modules.specs.Readable.{IsReadable}
+use Rattle.text_reader_rules.specs.Readable.{IsReadable}
 use Rattle.erl_scope.specs.declared.fault.ScopeFault.{ScopeFault}
 use Rattle.erl_scope.specs.FaultPlaces.{placed_fault}
 use Rattle.flat_modules.specs.FlatModules.{IsFlatModule}
 use Rattle.erl_runs.specs.Safety.{IsSafe}
-use Rattle.readable_modules.specs.SafeTexts.{IsSafeText}
+use Rattle.text_reader_rules.specs.SafeTexts.{IsSafeText}
 use Rattle.cert_checker.specs.declared.refusal.Shown.{Shown}
 use Rattle.cert_checker.specs.declared.refusal.FirstRefusal.{FirstRefusal}
 use Rattle.cert_checker.specs.declared.refusal.FirstRefusal.TheVariants.{NoMemory as NoMemoryToCheck, Failed as FailedConstraint}

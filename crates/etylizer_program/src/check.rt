@@ -1,10 +1,10 @@
 ghost use Rattle.std.specs.Prelude.{◌≡◌, ◌⊎◌, ◌<◌, ◌≤◌, ◌↔◌, Some, length, IfOk, IfErr, IsOk, IsErrOf};
 ghost use Rattle.erl_tree.specs.Profile.{IsLexed};
-ghost use Rattle.scope_rules.specs.ScopeFaults.{HasRightNames};
-ghost use Rattle.type_rules.specs.SpecTerms.{module_specs};
-ghost use Rattle.type_rules.specs.TypeFaults.{HasSpecs};
-ghost use Rattle.type_rules.specs.declared.fault.PlacedFault.{PlacedFault as TypePlacedFault};
-ghost use Rattle.scope_rules.specs.declared.fault.PlacedFault.{PlacedFault};
+ghost use Rattle.erl_scope_rules.specs.ScopeFaults.{HasRightNames};
+ghost use Rattle.typespecs_rules.specs.SpecTerms.{module_specs};
+ghost use Rattle.typespecs_rules.specs.TypeFaults.{HasSpecs};
+ghost use Rattle.typespecs_rules.specs.declared.fault.PlacedFault.{PlacedFault as TypePlacedFault};
+ghost use Rattle.erl_scope_rules.specs.declared.fault.PlacedFault.{PlacedFault};
 ghost use Rattle.flat_modules.specs.FlatModules.{IsFlatModule};
 ghost use Rattle.cert_checker.specs.declared.refusal.FirstRefusal.{FirstRefusal as Failure};
 ghost use Rattle.cert_checker.specs.Failures.{ShowsFirstFailure};
@@ -18,9 +18,9 @@ use erl_scope::{ScopeFault, resolve};
 use erl_tree::{Module, Placed};
 use flat_tests::is_flat_module;
 use std::alloc::Global;
-use type_rules::Specs;
 use type_terms::{List, NoMemory, Plain, Text};
 use typespecs::{SpecFault, read_specs};
+use typespecs_rules::Specs;
 
 /// The greatest number of bytes of a module's text.
 pub const TEXT_LIMIT: u64 = 1048576;

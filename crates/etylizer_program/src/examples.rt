@@ -3,7 +3,7 @@
 
 ghost use Rattle.std.specs.Prelude.{codes};
 ghost use Rattle.erl_tree.specs.SmallText.{small_text};
-ghost use Rattle.readable_modules.specs.SafeTexts.{IsSafeText};
+ghost use Rattle.text_reader_rules.specs.SafeTexts.{IsSafeText};
 
 /// The text `-module(a).` is a safe text.
 pub fn a_safe_text()

@@ -1,7 +1,7 @@
 ghost use Rattle.std.specs.Prelude.{◌≡◌, ◌<◌, ◌≤◌, ℕ, List as Listed, Some, length, IfOk};
 ghost use Rattle.erl_tree.specs.Functions.{functions_of};
-ghost use Rattle.type_rules.specs.SpecTerms.{module_specs};
-ghost use Rattle.type_rules.specs.TypeFaults as type_faults;
+ghost use Rattle.typespecs_rules.specs.SpecTerms.{module_specs};
+ghost use Rattle.typespecs_rules.specs.TypeFaults as type_faults;
 ghost use Rattle.flat_modules.specs.FlatModules.{IsFlatModule};
 ghost use Rattle.cert_checker.specs.Failures.{ShowsFirstFailure};
 ghost use Rattle.etylizer_program.specs.Check.{text_limit, IsFirstFault, IsParseRefusal, IsScopeRefusal, IsSpecRefusal, IsModuleVerdict, IsRightVerdict};
@@ -15,9 +15,9 @@ use erl_parser::ParseFault;
 use erl_scope::ScopeFault;
 use erl_tree::{Module, Place};
 use std::alloc::Global;
-use type_rules::{Outside, Specs};
 use type_terms::{Kind, NoMemory, Plain, Text};
 use typespecs::SpecFault;
+use typespecs_rules::{Outside, Specs};
 
 /// What is to be said of a module's text.
 pub fn judge(alloc: Global, text: &[u8]) -> Result<Verdict, NoMemory>

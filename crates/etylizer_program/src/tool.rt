@@ -4,8 +4,8 @@ ghost use Rattle.etylizer_program.specs.Commands.{command_of};
 ghost use Rattle.etylizer_program.specs.Report.{report_text};
 ghost use Rattle.etylizer_program.specs.Tool.{AcceptsSafeText, Judges, JudgesFile, JudgesText, BreaksOff, BeginsFileReport, BeginsTextReport, HoldsNamedFile, NamesRightModule, NamesNoModule, NamesNotBuilt, NamesWrongNames, NamesWrongSpecs, verdict_status};
 ghost use Rattle.etylizer_program.specs.Check.{fault_words, spec_fault_words};
-ghost use Rattle.scope_rules.specs.declared.fault.PlacedFault.{PlacedFault};
-ghost use Rattle.type_rules.specs.declared.fault.PlacedFault.{PlacedFault as TypePlacedFault};
+ghost use Rattle.erl_scope_rules.specs.declared.fault.PlacedFault.{PlacedFault};
+ghost use Rattle.typespecs_rules.specs.declared.fault.PlacedFault.{PlacedFault as TypePlacedFault};
 
 use crate::check::TEXT_LIMIT;
 use crate::command::{Command, command_of};

@@ -13,11 +13,11 @@ use Rattle.erl_tree.specs.declared.form.Module.{Module}
 use Rattle.erl_grammar.proofs.Layers.{each}
 use Rattle.erl_runs.specs.Names.{same_id}
 use Rattle.erl_runs.specs.Specs.{specified_id, specs_in}
-use Rattle.type_rules.specs.Declarations.{Declarations, declarations_of}
-use Rattle.type_rules.specs.declared.fault.TypeFault.{TypeFault}
-use Rattle.type_rules.specs.declared.fault.TypeFault.TheVariants.{Repeated}
-use Rattle.type_rules.specs.TypeFaults.{unless, Behind, behind, form_faults, forms_faults, spec_form_faults, clauses_faults, listed_faults, at_one_place}
-use Rattle.readable_modules.specs.Readable.{IsReadable}
+use Rattle.typespecs_rules.specs.Declarations.{Declarations, declarations_of}
+use Rattle.typespecs_rules.specs.declared.fault.TypeFault.{TypeFault}
+use Rattle.typespecs_rules.specs.declared.fault.TypeFault.TheVariants.{Repeated}
+use Rattle.typespecs_rules.specs.TypeFaults.{unless, Behind, behind, form_faults, forms_faults, spec_form_faults, clauses_faults, listed_faults, at_one_place}
+use Rattle.text_reader_rules.specs.Readable.{IsReadable}
 use Rattle.flat_modules.specs.FlatSpecs.{read_specs, specs_of, HasFlatSpecs}
 use Rattle.flat_modules.proofs.Lists.{every-so}
 use Rattle.flat_modules.proofs.SeenVariables.{append-none}

@@ -7,7 +7,7 @@ use Rattle.erl_tree.specs.Limits.{IsInLimit}
 use Rattle.erl_tree.specs.Functions.{functions_of, function_ids}
 use Rattle.erl_grammar.specs.FormNesting.{IsModuleWithin}
 use Rattle.erl_grammar.specs.Nesting.{nesting_limit}
-use Rattle.readable_modules.specs.Readable.{IsReadable}
+use Rattle.text_reader_rules.specs.Readable.{IsReadable}
 use Rattle.flat_modules.specs.FlatSpecs.{HasFlatSpecs}
 use Rattle.flat_modules.specs.FlatNames.{FunctionCallsOnly, HasRightFlatNames}
 use Rattle.flat_modules.specs.Spelling.{tokens_of}

@@ -13,9 +13,9 @@ use Rattle.erl_tree.specs.declared.type_expr.MapPart.{MapPart}
 use Rattle.erl_tree.specs.declared.type_expr.TypeKind.TheOpen as O
 use Rattle.erl_runs.specs.Specs.{and_then, range}
 use Rattle.flat_modules.specs.FlatSpecs.{end_of, type_term_layer, type_kind_term as flat_kind_term}
-use Rattle.type_rules.specs.Declarations.{Declarations}
-use Rattle.type_rules.specs.TypeTerms.{MapEntry, RecordTuple, range_end, range_term, used_term, term_layer}
-use Rattle.type_rules.proofs.TypeRuleLaws.{of_kind, with_term, with_entry, term-rolls}
+use Rattle.typespecs_rules.specs.Declarations.{Declarations}
+use Rattle.typespecs_rules.specs.TypeTerms.{MapEntry, RecordTuple, range_end, range_term, used_term, term_layer}
+use Rattle.typespecs_rules.proofs.TypeRuleLaws.{of_kind, with_term, with_entry, term-rolls}
 
 same-bytes : (m n : Name) → same_name m n ≡ bytes_eq m n
 same-bytes [] [] = refl

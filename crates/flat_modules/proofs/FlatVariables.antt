@@ -10,8 +10,8 @@ use Rattle.erl_tree.specs.declared.type_expr.MapPart.{MapPart}
 use Rattle.erl_tree.specs.declared.type_expr.TypeKind.TheOpen as O
 use Rattle.erl_runs.specs.Specs.{one_integer, range}
 use Rattle.flat_modules.specs.FlatSpecs.{end_of, built_in_type, type_term_layer, type_kind_term}
-use Rattle.type_rules.specs.SpecTerms.{holds_variable, some_true}
-use Rattle.type_rules.proofs.VariableLaws.{holds-Ints, holds-AtomLit, holds-AnyAtom, holds-Or}
+use Rattle.typespecs_rules.specs.SpecTerms.{holds_variable, some_true}
+use Rattle.typespecs_rules.proofs.VariableLaws.{holds-Ints, holds-AtomLit, holds-AnyAtom, holds-Or}
 use Rattle.flat_modules.proofs.FlatTypeTerms.{then-value}
 
 -- no variable stands in a term

@@ -16,13 +16,13 @@ use Rattle.erl_tree.specs.declared.form.TreeForm.{TreeForm}
 use Rattle.erl_tree.specs.declared.form.TreeForm.TheVariants as F
 use Rattle.erl_tree.specs.declared.form.Module.{Module}
 use Rattle.erl_runs.specs.Specs.{specs_in}
-use Rattle.type_rules.specs.TypeParts.{from_each}
-use Rattle.type_rules.specs.Declarations.{nothing_declared}
-use Rattle.type_rules.specs.Bounds.{IsCyclic}
-use Rattle.type_rules.specs.SpecTerms.{module_specs}
-use Rattle.type_rules.specs.declared.fault.PlacedFault.{PlacedFault}
-use Rattle.type_rules.specs.RegularUse.{Declaration, given_declaration, all_types, by_number, IsNotRegular}
-use Rattle.type_rules.specs.TypeFaults.{listed_faults, IsTextFault, at_one_place, bound_leads_back, not_regular, IsWellSignedArrow, arrows_of, HasSpecs}
+use Rattle.typespecs_rules.specs.TypeParts.{from_each}
+use Rattle.typespecs_rules.specs.Declarations.{nothing_declared}
+use Rattle.typespecs_rules.specs.Bounds.{IsCyclic}
+use Rattle.typespecs_rules.specs.SpecTerms.{module_specs}
+use Rattle.typespecs_rules.specs.declared.fault.PlacedFault.{PlacedFault}
+use Rattle.typespecs_rules.specs.RegularUse.{Declaration, given_declaration, all_types, by_number, IsNotRegular}
+use Rattle.typespecs_rules.specs.TypeFaults.{listed_faults, IsTextFault, at_one_place, bound_leads_back, not_regular, IsWellSignedArrow, arrows_of, HasSpecs}
 use Rattle.flat_modules.specs.FlatSpecs.{read_specs, specs_of, module_specs_of}
 use Rattle.flat_modules.specs.FlatModules.{IsFlatModule}
 use Rattle.flat_modules.specs.Grammar.{IsForm, is_spec_layer, is_spec_clause_layer, IsWellFormed}

@@ -23,11 +23,11 @@ use Rattle.erl_runs.specs.Names.{same_id, is_built_in}
 use Rattle.erl_runs.specs.Records.{records_of}
 use Rattle.erl_runs.specs.Specs.{and_then, all_present, specified_id, specs_in, spec_id}
 use Rattle.flat_modules.specs.FlatSpecs.{type_term, clause_arrow, arrows_arity, function_spec, specs_of, HasFlatSpecs}
-use Rattle.scope_rules.specs.declared.fault.NameFault.{NameFault}
-use Rattle.scope_rules.specs.declared.fault.NameFault.TheVariants.{NoSuchFunction, TwoFunctions, NoSpec}
-use Rattle.scope_rules.specs.Occurrences.{function_occurrences, forms_occurrences, occurrences_of}
-use Rattle.scope_rules.specs.ScopeFaults.{unless, faults_of_each, occurrence_faults, function_faults, specified_in, forms_faults, HasRightNames}
-use Rattle.scope_rules.proofs.OccurrenceLists.{faults_of_each-append}
+use Rattle.erl_scope_rules.specs.declared.fault.NameFault.{NameFault}
+use Rattle.erl_scope_rules.specs.declared.fault.NameFault.TheVariants.{NoSuchFunction, TwoFunctions, NoSpec}
+use Rattle.erl_scope_rules.specs.Occurrences.{function_occurrences, forms_occurrences, occurrences_of}
+use Rattle.erl_scope_rules.specs.ScopeFaults.{unless, faults_of_each, occurrence_faults, function_faults, specified_in, forms_faults, HasRightNames}
+use Rattle.erl_scope_rules.proofs.OccurrenceLists.{faults_of_each-append}
 use Rattle.flat_modules.specs.FlatNames.{IsScoped, HasRightFlatNames}
 use Rattle.flat_modules.specs.Grammar.{IsForm, is_module_layer, IsWellFormed}
 use Rattle.flat_modules.proofs.Lists.{every-so}

@@ -23,13 +23,13 @@ use Rattle.erl_tree.specs.declared.expr.CatchKind.{CatchKind}
 use Rattle.erl_tree.specs.declared.form.Function.{Function}
 use Rattle.erl_grammar.specs.Grammar.{clause_of}
 use Rattle.erl_runs.specs.Names.{is_wildcard}
-use Rattle.scope_rules.specs.declared.fault.NameFault.{NameFault}
-use Rattle.scope_rules.specs.declared.role.Role.TheVariants.{Used, Met}
-use Rattle.scope_rules.specs.Occurrences.{Mark, names_of, Occurrence, Part, body, seeing, behind, in_turn, variables_of, row_variables, mark_behind, marks_behind, row, row_marks, use_at, expr_part, clause_kind_part, function_occurrences}
-use Rattle.scope_rules.specs.Bindings.{bound_by_role, innermost}
-use Rattle.scope_rules.specs.ScopeFaults.{at, faults_of_each, faults_of_optional, stands_among, role_fault, occurrence_faults}
-use Rattle.scope_rules.proofs.OccurrenceLaws.{variables-Var, part-Var, part-Paren, part-Binary, part-Call, step-Value, body_in, part-roll_clause}
-use Rattle.scope_rules.proofs.OccurrenceLists.{seeing-append, behind-append, behind-behind, faults_of_each-append}
+use Rattle.erl_scope_rules.specs.declared.fault.NameFault.{NameFault}
+use Rattle.erl_scope_rules.specs.declared.role.Role.TheVariants.{Used, Met}
+use Rattle.erl_scope_rules.specs.Occurrences.{Mark, names_of, Occurrence, Part, body, seeing, behind, in_turn, variables_of, row_variables, mark_behind, marks_behind, row, row_marks, use_at, expr_part, clause_kind_part, function_occurrences}
+use Rattle.erl_scope_rules.specs.Bindings.{bound_by_role, innermost}
+use Rattle.erl_scope_rules.specs.ScopeFaults.{at, faults_of_each, faults_of_optional, stands_among, role_fault, occurrence_faults}
+use Rattle.erl_scope_rules.proofs.OccurrenceLaws.{variables-Var, part-Var, part-Paren, part-Binary, part-Call, step-Value, body_in, part-roll_clause}
+use Rattle.erl_scope_rules.proofs.OccurrenceLists.{seeing-append, behind-append, behind-behind, faults_of_each-append}
 use Rattle.flat_modules.specs.FlatNames.{bound_layer, bound_by, used_in, used_item_layer, used_by, IsScoped}
 use Rattle.flat_modules.specs.Grammar.{node, IsPattern, IsExpr, one_product, sum, IsProduct, one_operand, product, IsOperand, integer, atom, variable, parens, call, AreArguments, no_arguments, last_argument, more_arguments, IsFunction}
 use Rattle.flat_modules.proofs.FlatNameEquations.{all_used, used_in-Int, used_in-Atom, used_in-Var, used_in-Paren, used_in-Binary, used_in-Call}

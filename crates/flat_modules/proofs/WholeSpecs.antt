@@ -19,13 +19,13 @@ use Rattle.erl_tree.specs.declared.form.TreeForm.TheVariants as F
 use Rattle.erl_tree.specs.declared.form.Module.{Module}
 use Rattle.erl_runs.specs.Records.{records_in}
 use Rattle.erl_runs.specs.Specs.{and_then, all_present, specs_in}
-use Rattle.type_rules.specs.declared.specs.Specs.{Specs}
-use Rattle.type_rules.specs.Declarations.{Declarations, declarations_of, nothing_declared, types_in}
-use Rattle.type_rules.specs.TypeTerms.{record_tuple}
-use Rattle.type_rules.specs.TypeVariables.{numbered_from, clause_variables}
-use Rattle.type_rules.specs.Bounds.{stands_for}
-use Rattle.type_rules.specs.SpecTerms.{definitions, type_names, record_specs, holds_variable, arrow_holds, clause_term, arrow_with, held_from, held_in, held_variables, arrows_from, variables_in, function_specs, module_specs}
-use Rattle.type_rules.specs.SpecTerms as T
+use Rattle.typespecs_rules.specs.declared.specs.Specs.{Specs}
+use Rattle.typespecs_rules.specs.Declarations.{Declarations, declarations_of, nothing_declared, types_in}
+use Rattle.typespecs_rules.specs.TypeTerms.{record_tuple}
+use Rattle.typespecs_rules.specs.TypeVariables.{numbered_from, clause_variables}
+use Rattle.typespecs_rules.specs.Bounds.{stands_for}
+use Rattle.typespecs_rules.specs.SpecTerms.{definitions, type_names, record_specs, holds_variable, arrow_holds, clause_term, arrow_with, held_from, held_in, held_variables, arrows_from, variables_in, function_specs, module_specs}
+use Rattle.typespecs_rules.specs.SpecTerms as T
 use Rattle.flat_modules.specs.FlatSpecs.{type_term, clause_arrow, function_spec, read_specs, specs_of, module_specs_of}
 use Rattle.flat_modules.specs.Grammar.{IsForm, IsWellFormed}
 use Rattle.flat_modules.proofs.FlatTypeTerms.{then-value, all-same}

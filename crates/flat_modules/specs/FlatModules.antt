@@ -10,7 +10,7 @@ use Rattle.erl_grammar.specs.FormGrammar.{IsModule}
 use Rattle.erl_grammar.specs.FormNesting.{IsModuleWithin}
 use Rattle.erl_grammar.specs.Nesting.{nesting_limit}
 use Rattle.erl_grammar.specs.Texts.{HasIntegersInLimit}
-use Rattle.readable_modules.specs.Readable.{IsReadable}
+use Rattle.text_reader_rules.specs.Readable.{IsReadable}
 use Rattle.flat_modules.specs.FlatSpecs.{HasFlatSpecs}
 use Rattle.flat_modules.specs.FlatNames.{bound_by, FunctionCallsOnly}
 use Rattle.flat_modules.specs.Flat.{is_flat}

@@ -17,7 +17,7 @@ use Rattle.erl_tree.specs.declared.form.SpecKind.{SpecKind}
 use Rattle.erl_tree.specs.declared.form.SpecClauseKind.{SpecClauseKind}
 use Rattle.erl_tree.specs.declared.form.Module.{Module}
 use Rattle.erl_runs.specs.Specs.{and_then, all_present, one_integer, range, specs_in, spec_id}
-use Rattle.type_rules.specs.declared.specs.Specs.{Specs}
+use Rattle.typespecs_rules.specs.declared.specs.Specs.{Specs}
 
 -- ---- types
 

@@ -7,9 +7,9 @@ use Rattle.erl_tree.specs.declared.form.TreeForm.{TreeForm}
 use Rattle.erl_tree.specs.declared.form.TreeForm.TheVariants as F
 use Rattle.erl_tree.specs.Lists.{Every, Among, AreDistinct}
 use Rattle.erl_tree.specs.Functions.{FunctionId, function_id, functions_in}
-use Rattle.function_table.specs.Table.{Entry, ids, IsInsertion, IsFound}
-use Rattle.function_table.proofs.Distinct.{AreDistinct-push}
-use Rattle.function_table.proofs.Lookups.{Among-ids}
+use Rattle.name_table.specs.Table.{Entry, ids, IsInsertion, IsFound}
+use Rattle.name_table.proofs.Distinct.{AreDistinct-push}
+use Rattle.name_table.proofs.Lookups.{Among-ids}
 use Rattle.flat_tests.specs.Names.{named_by, names_in, FormCallsOnly, HasMatchingNames}
 use Rattle.flat_tests.proofs.ForEach.{rest_at}
 use Rattle.flat_tests.proofs.Everywhere.{Every-among}

@@ -8,7 +8,7 @@ use Rattle.erl_tree.specs.declared.pattern.PatternKind.TheOpen as P
 use Rattle.erl_tree.specs.Lists.{Every, Among, AreDistinct}
 use Rattle.erl_runs.specs.Names.{is_wildcard}
 use Rattle.flat_modules.specs.FlatNames.{bound_by, bound_layer}
-use Rattle.function_table.proofs.Distinct.{Among-append_left, Among-append_right, Among-append}
+use Rattle.name_table.proofs.Distinct.{Among-append_left, Among-append_right, Among-append}
 use Rattle.flat_tests.specs.Names.{IsFresh}
 use Rattle.flat_tests.proofs.ForEach.{rest_at}
 

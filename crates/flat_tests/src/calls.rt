@@ -4,20 +4,15 @@ ghost use Rattle.std.specs.Prelude.{◌↔◌, IsTrue, IfOk};
 ghost use Rattle.erl_tree.specs.Lists.{Every, Among};
 ghost use Rattle.erl_tree.specs.Functions.{of_function};
 ghost use Rattle.flat_modules.specs.FlatNames.{called_in, CallsOnly};
-ghost use Rattle.function_table.specs.Table.{ids};
+ghost use Rattle.name_table.specs.Table.{ids};
 ghost use Rattle.flat_tests.specs.Names.{ExpressionCallsOnly, ItemCallsOnly, FormCallsOnly};
 
 use erl_tree::{Clause, Expr, ExprKind, Item, ItemKind, TreeForm};
-use function_table::FunctionTable;
+use name_table::NameTable;
 use std::alloc::Global;
 use type_terms::{NoMemory, Text};
 
-fn is_defined(
-    alloc: Global,
-    table: &FunctionTable,
-    name: &Text,
-    arity: usize,
-) -> Result<bool, NoMemory>
+fn is_defined(alloc: Global, table: &NameTable, name: &Text, arity: usize) -> Result<bool, NoMemory>
     ensures { IfOk result (λ answer. IsTrue answer ↔ Among (of_function name.now arity) (ids table.now)) }
 {
     Ok(table.get(alloc, name, arity)?.is_some())
@@ -26,11 +21,7 @@ fn is_defined(
 /// Whether each function that an expression calls is defined.
 #[cycle(called)]
 #[tactic(auto, using(crate::proofs::OneLevel::called_laws, std::proofs::lemmas::Grind::common_steps))]
-fn calls_only_defined(
-    alloc: Global,
-    table: &FunctionTable,
-    kind: &ExprKind,
-) -> Result<bool, NoMemory>
+fn calls_only_defined(alloc: Global, table: &NameTable, kind: &ExprKind) -> Result<bool, NoMemory>
     ensures { IfOk result (λ answer. IsTrue answer ↔ Every (λ id. Among id (ids table.now)) (called_in kind.now)) }
 {
     match kind {
@@ -59,7 +50,7 @@ fn calls_only_defined(
 #[cycle(called)]
 fn expressions_call_only_defined(
     alloc: Global,
-    table: &FunctionTable,
+    table: &NameTable,
     expressions: &[Expr],
 ) -> Result<bool, NoMemory>
     ensures { IfOk result (λ answer. IsTrue answer ↔ Every (ExpressionCallsOnly (ids table.now)) expressions.now) }
@@ -73,11 +64,7 @@ fn expressions_call_only_defined(
     Ok(true)
 }
 
-fn item_calls_only_defined(
-    alloc: Global,
-    table: &FunctionTable,
-    item: &Item,
-) -> Result<bool, NoMemory>
+fn item_calls_only_defined(alloc: Global, table: &NameTable, item: &Item) -> Result<bool, NoMemory>
     ensures { IfOk result (λ answer. IsTrue answer ↔ ItemCallsOnly (ids table.now) item.now) }
 {
     match item.kind.get() {
@@ -88,7 +75,7 @@ fn item_calls_only_defined(
 
 fn body_calls_only_defined(
     alloc: Global,
-    table: &FunctionTable,
+    table: &NameTable,
     body: &[Item],
 ) -> Result<bool, NoMemory>
     ensures { IfOk result (λ answer. IsTrue answer ↔ Every (ItemCallsOnly (ids table.now)) body.now) }
@@ -104,7 +91,7 @@ fn body_calls_only_defined(
 
 fn clause_calls_only_defined(
     alloc: Global,
-    table: &FunctionTable,
+    table: &NameTable,
     clause: &Clause,
 ) -> Result<bool, NoMemory>
     ensures { IfOk result (λ answer. IsTrue answer ↔ CallsOnly (ids table.now) clause.now) }
@@ -114,7 +101,7 @@ fn clause_calls_only_defined(
 
 fn clauses_call_only_defined(
     alloc: Global,
-    table: &FunctionTable,
+    table: &NameTable,
     clauses: &[Clause],
 ) -> Result<bool, NoMemory>
     ensures { IfOk result (λ answer. IsTrue answer ↔ Every (CallsOnly (ids table.now)) clauses.now) }
@@ -130,7 +117,7 @@ fn clauses_call_only_defined(
 
 fn form_calls_only_defined(
     alloc: Global,
-    table: &FunctionTable,
+    table: &NameTable,
     form: &TreeForm,
 ) -> Result<bool, NoMemory>
     ensures { IfOk result (λ answer. IsTrue answer ↔ FormCallsOnly (ids table.now) form.now) }
@@ -146,7 +133,7 @@ fn form_calls_only_defined(
 /// Whether each function that forms call is in the table of definitions.
 pub fn forms_call_only_defined(
     alloc: Global,
-    table: &FunctionTable,
+    table: &NameTable,
     forms: &[TreeForm],
 ) -> Result<bool, NoMemory>
     ensures { IfOk result (λ answer. IsTrue answer ↔ Every (FormCallsOnly (ids table.now)) forms.now) }

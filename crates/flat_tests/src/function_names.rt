@@ -4,13 +4,13 @@ ghost use Rattle.std.specs.Prelude.{◌≡◌, ◌↔◌, ◌++◌, IsTrue, IfOk
 ghost use Rattle.std.specs.Option.{option_map};
 ghost use Rattle.erl_tree.specs.Lists.{AreDistinct};
 ghost use Rattle.erl_tree.specs.Functions.{of_function};
-ghost use Rattle.function_table.specs.Table.{ids};
+ghost use Rattle.name_table.specs.Table.{ids};
 ghost use Rattle.flat_tests.specs.Names as names;
 ghost use Rattle.flat_tests.specs.Names.{listed, names_in, HasMatchingNames};
 
 use crate::calls::forms_call_only_defined;
 use erl_tree::TreeForm;
-use function_table::FunctionTable;
+use name_table::NameTable;
 use std::alloc::Global;
 use type_terms::{NoMemory, Text};
 
@@ -26,7 +26,7 @@ fn named_by(form: &TreeForm) -> Option<(&Text, usize)>
 
 /// Adds the function that a form defines, unless it is there. Gives whether the functions stay
 /// distinct.
-fn add_name(alloc: Global, table: &mut FunctionTable, form: &TreeForm) -> Result<bool, NoMemory>
+fn add_name(alloc: Global, table: &mut NameTable, form: &TreeForm) -> Result<bool, NoMemory>
     requires { AreDistinct (ids table.old) }
     ensures distinct { IfOk result (λ added. IsTrue added ↔ AreDistinct (ids table.old ++ names.named_by form.now)) }
     ensures added { IfOk result (λ added. IsTrue added → ids table.new ≡ ids table.old ++ names.named_by form.now) }
@@ -38,10 +38,10 @@ fn add_name(alloc: Global, table: &mut FunctionTable, form: &TreeForm) -> Result
 }
 
 /// The table of the functions that forms define. `None` where one comes twice.
-fn table_of(alloc: Global, forms: &[TreeForm]) -> Result<Option<FunctionTable>, NoMemory>
+fn table_of(alloc: Global, forms: &[TreeForm]) -> Result<Option<NameTable>, NoMemory>
     ensures { IfOk result (λ found. MatchOption found (AreDistinct (names_in forms.now) → ⊥) (λ table. (ids table ≡ names_in forms.now) × AreDistinct (ids table))) }
 {
-    let mut table = FunctionTable::new(alloc);
+    let mut table = NameTable::new(alloc);
     for form in forms {
         let added = add_name(alloc, &mut table, form)?;
         if !added {

@@ -8,7 +8,7 @@ ghost use Rattle.flat_modules.specs.FlatModules.{HasDistinctHead};
 ghost use Rattle.flat_modules.specs.FlatNames.{bound_by, bound_layer};
 ghost use Rattle.flat_tests.specs.Names.{listed, IsFresh};
 
-use built_ins::is_text;
+use erl_scope_built_ins::is_text;
 use erl_tree::{Clause, Pattern, PatternKind};
 use type_terms::Text;
 

@@ -5,7 +5,7 @@ ghost use Rattle.erl_tree.specs.Lists.{Every};
 ghost use Rattle.flat_modules.specs.FlatSpecs.{type_term, built_in_type, clause_arrow, function_spec};
 ghost use Rattle.flat_tests.specs.Names.{range_term, use_term};
 
-use built_ins::is_text;
+use erl_scope_built_ins::is_text;
 use erl_tree::{Literal, LiteralKind, Node, SpecClause, SpecKind, TypeExpr, TypeKind};
 use type_terms::{List, Text};
 

@@ -5,7 +5,7 @@ ghost use Rattle.erl_grammar.specs.FormGrammar.{IsModule};
 ghost use Rattle.erl_grammar.specs.FormNesting.{IsModuleWithin};
 ghost use Rattle.erl_grammar.specs.Nesting.{nesting_limit};
 ghost use Rattle.erl_grammar.specs.Texts.{HasIntegersInLimit};
-ghost use Rattle.readable_modules.specs.Readable.{IsReadable};
+ghost use Rattle.text_reader_rules.specs.Readable.{IsReadable};
 ghost use Rattle.flat_modules.specs.FlatModules.{IsFlatModule};
 
 use crate::forms::are_right_forms;

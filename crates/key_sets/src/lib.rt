@@ -11,6 +11,3 @@ mod sweep;
 
 pub use key_set::KeySet;
 pub use part::Part;
-
-#[cfg(test)]
-mod tests;

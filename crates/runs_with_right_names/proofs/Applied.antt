@@ -12,7 +12,7 @@ use Rattle.erl_tree.specs.Functions.{function_ids, functions_of}
 use Rattle.erl_runs.specs.Records.{records_of}
 use Rattle.erl_runs.specs.Value.{Value, named_fun, closure, Environment, no_bindings, Outcome, came, raised, wrong, going, Run}
 use Rattle.erl_runs.specs.Running.{goes_wrong, still_going, with_calls, Applies, Code, funs_in_function, funs_in_choices, taken_anew, run_clauses, run_kind, choices, code_with, code_of, arity_of, find_numbered, run_function, run_closure, enter, apply_within, apply}
-use Rattle.scope_rules.specs.ScopeFaults.{HasRightNames}
+use Rattle.erl_scope_rules.specs.ScopeFaults.{HasRightNames}
 use Rattle.runs_with_right_names.specs.KnownValues.{RowHasFuns, IsKnownCode, IsKnownFunction, IsKnown}
 use Rattle.runs_with_right_names.specs.SameRuns.{IsKnownOutcome}
 use Rattle.runs_with_right_names.proofs.Held.{has, EndsHeld, SameRun}

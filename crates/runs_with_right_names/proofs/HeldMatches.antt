@@ -19,7 +19,7 @@ use Rattle.erl_runs.specs.FiniteMaps.{get}
 use Rattle.erl_runs.specs.Order.{same_value}
 use Rattle.erl_runs.specs.Records.{string_value, find_record, fields_of, field_value, record_values}
 use Rattle.erl_runs.specs.Matching.{variable_value, Match, match_next, match_value, match_variable, match_each, match_cells, match_found, literal_key, match_entries, match_fields, match_record, match_tuple, match_map, match_tail, kinds, match_layer, match_kind, match_pattern, match_patterns}
-use Rattle.scope_rules.specs.Occurrences.{Variables, variables_of_each, variables_of_node, variables_of_optional, variables_layer, pattern_kind_variables, variables_of, row_variables}
+use Rattle.erl_scope_rules.specs.Occurrences.{Variables, variables_of_each, variables_of_node, variables_of_optional, variables_layer, pattern_kind_variables, variables_of, row_variables}
 use Rattle.runs_with_right_names.proofs.Held.{has, Held, AllHeld, RowHeld, FoundHeld}
 use Rattle.runs_with_right_names.proofs.HeldValues.{none≢some, some-same, get-held, with_variable-held, with_variable-binds, with_variable-grows, items-held, field_value-held, record_values-held, found-held}
 

@@ -26,13 +26,13 @@ use Rattle.erl_runs.specs.Running.{ends, gives, then, with_calls, Applies, Code,
 use Rattle.erl_runs.proofs.MatchLaws.{match_kind-Var}
 use Rattle.erl_runs.proofs.RunLaws.{run_bound, runs-Var, runs-Call, one_clause-runs}
 use Rattle.erl_runs.proofs.BoundFree.{apply-none, apply-step}
-use Rattle.scope_rules.specs.declared.role.Role.TheVariants.{Used}
-use Rattle.scope_rules.specs.declared.fault.NameFault.TheVariants.{NoSuchFunction}
-use Rattle.scope_rules.specs.declared.fault.PlacedFault.{PlacedFault}
-use Rattle.scope_rules.specs.Occurrences.{Occurrence, expr_part}
-use Rattle.scope_rules.specs.ScopeFaults.{HasRightNames, is_defined, expr_faults}
-use Rattle.scope_rules.proofs.OccurrenceLaws.{variables_equations, part_equations}
-use Rattle.scope_rules.proofs.FaultLaws.{pattern_fault_equations, fault_equations}
+use Rattle.erl_scope_rules.specs.declared.role.Role.TheVariants.{Used}
+use Rattle.erl_scope_rules.specs.declared.fault.NameFault.TheVariants.{NoSuchFunction}
+use Rattle.erl_scope_rules.specs.declared.fault.PlacedFault.{PlacedFault}
+use Rattle.erl_scope_rules.specs.Occurrences.{Occurrence, expr_part}
+use Rattle.erl_scope_rules.specs.ScopeFaults.{HasRightNames, is_defined, expr_faults}
+use Rattle.erl_scope_rules.proofs.OccurrenceLaws.{variables_equations, part_equations}
+use Rattle.erl_scope_rules.proofs.FaultLaws.{pattern_fault_equations, fault_equations}
 use Rattle.runs_with_right_names.specs.KnownValues.{HasVariables, IsKnown}
 use Rattle.runs_with_right_names.specs.SameRuns.{MeetsNoUnboundName}
 use Rattle.runs_with_right_names.specs.SmallModules.{stands, name_x, name_y, variable, call_of_g, fun_of_y, fun_of_g, function_f, module_of, gives_x, gives_y, calls_g, fun_f, fun_g, with_y}

@@ -14,11 +14,11 @@ use Rattle.erl_tree.specs.Lists.{Among, Every}
 use Rattle.erl_tree.specs.Functions.{FunctionId, functions_in, functions_of, function_ids, function_id}
 use Rattle.erl_runs.specs.Names.{same_id, is_built_in}
 use Rattle.erl_runs.specs.Records.{records_of}
-use Rattle.scope_rules.specs.declared.fault.PlacedFault.{PlacedFault}
-use Rattle.scope_rules.specs.declared.fault.NameFault.{NameFault}
-use Rattle.scope_rules.specs.declared.fault.NameFault.TheVariants.{TwoFunctions, NoSpec}
-use Rattle.scope_rules.specs.Occurrences.{occurrences_of}
-use Rattle.scope_rules.specs.ScopeFaults.{unless, faults_of_each, faults_of_optional, occurrence_faults, ClauseFaults, clause_faults, clauses_faults, arities_differ, clause_node, clause_kind_faults, function_faults, form_faults, forms_faults, defined_by, specified_in, HasRightNames}
+use Rattle.erl_scope_rules.specs.declared.fault.PlacedFault.{PlacedFault}
+use Rattle.erl_scope_rules.specs.declared.fault.NameFault.{NameFault}
+use Rattle.erl_scope_rules.specs.declared.fault.NameFault.TheVariants.{TwoFunctions, NoSpec}
+use Rattle.erl_scope_rules.specs.Occurrences.{occurrences_of}
+use Rattle.erl_scope_rules.specs.ScopeFaults.{unless, faults_of_each, faults_of_optional, occurrence_faults, ClauseFaults, clause_faults, clauses_faults, arities_differ, clause_node, clause_kind_faults, function_faults, form_faults, forms_faults, defined_by, specified_in, HasRightNames}
 
 -- ---- lists
 

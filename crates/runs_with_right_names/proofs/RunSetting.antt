@@ -15,10 +15,10 @@ use Rattle.erl_runs.specs.Value.{Value, Environment, Outcome, wrong, Run}
 use Rattle.erl_runs.specs.Operations.{Association}
 use Rattle.erl_runs.specs.Running.{Part, Does, Choice, Applies, behind, run_kind}
 use Rattle.erl_runs.proofs.RunLaws as R
-use Rattle.scope_rules.specs.declared.fault.PlacedFault.{PlacedFault}
-use Rattle.scope_rules.specs.Occurrences.{Mark, Occurrence}
-use Rattle.scope_rules.specs.Occurrences as O
-use Rattle.scope_rules.specs.ScopeFaults.{is_defined, expr_faults}
+use Rattle.erl_scope_rules.specs.declared.fault.PlacedFault.{PlacedFault}
+use Rattle.erl_scope_rules.specs.Occurrences.{Mark, Occurrence}
+use Rattle.erl_scope_rules.specs.Occurrences as O
+use Rattle.erl_scope_rules.specs.ScopeFaults.{is_defined, expr_faults}
 use Rattle.runs_with_right_names.specs.KnownValues.{HasFuns, RowHasFuns, HasVariables}
 use Rattle.runs_with_right_names.proofs.Held.{has, SameRun}
 

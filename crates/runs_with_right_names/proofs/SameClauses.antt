@@ -14,12 +14,12 @@ use Rattle.erl_runs.specs.Order.{same_value}
 use Rattle.erl_runs.specs.Matching.{shadowed_by, match_next, match_pattern, match_patterns}
 use Rattle.erl_runs.specs.Running.{Choice, Applies, allowed, taken, anew, taken_anew, class_name, match_class, match_caught}
 use Rattle.erl_runs.proofs.RunLaws as R
-use Rattle.scope_rules.specs.declared.role.Role.{Role}
-use Rattle.scope_rules.specs.declared.role.Role.TheVariants.{Met}
-use Rattle.scope_rules.specs.Occurrences as O
-use Rattle.scope_rules.specs.ScopeFaults.{faults_of_each, faults_of_optional, clause_kind_faults, catch_kind_faults, expr_faults, pattern_faults}
-use Rattle.scope_rules.proofs.OccurrenceLaws.{tests_part, guard_at, body_in, clause-out, catch-out}
-use Rattle.scope_rules.proofs.FaultLaws.{guard_faults, catch_faults-out}
+use Rattle.erl_scope_rules.specs.declared.role.Role.{Role}
+use Rattle.erl_scope_rules.specs.declared.role.Role.TheVariants.{Met}
+use Rattle.erl_scope_rules.specs.Occurrences as O
+use Rattle.erl_scope_rules.specs.ScopeFaults.{faults_of_each, faults_of_optional, clause_kind_faults, catch_kind_faults, expr_faults, pattern_faults}
+use Rattle.erl_scope_rules.proofs.OccurrenceLaws.{tests_part, guard_at, body_in, clause-out, catch-out}
+use Rattle.erl_scope_rules.proofs.FaultLaws.{guard_faults, catch_faults-out}
 use Rattle.runs_with_right_names.specs.KnownValues.{HasVariables}
 use Rattle.runs_with_right_names.proofs.Held.{has}
 use Rattle.runs_with_right_names.proofs.HeldValues.{shadowed-held, shadowed-own, shadowed-outer}

@@ -15,13 +15,13 @@ use Rattle.erl_runs.specs.Records.{find_record}
 use Rattle.erl_runs.specs.Operations.{change_map}
 use Rattle.erl_runs.specs.Running.{gives, behind, is_fun_layer, with_itself, funs_in, funs_in_choices, funs_in_optional, taken, taken_anew, class_name, run_rest, run_after, names_of, new_record, changed_record, field_of}
 use Rattle.erl_runs.proofs.RunLaws as R
-use Rattle.scope_rules.specs.declared.fault.PlacedFault.{PlacedFault}
-use Rattle.scope_rules.specs.declared.role.Role.{Role}
-use Rattle.scope_rules.specs.declared.role.Role.TheVariants.{Met, Renewed}
-use Rattle.scope_rules.specs.Occurrences as O
-use Rattle.scope_rules.specs.ScopeFaults.{faults_of_each, faults_of_optional, declared_faults, fields_faults, get_faults, clause_kind_faults, expr_faults, assoc_faults, catch_faults}
-use Rattle.scope_rules.proofs.OccurrenceLaws as L
-use Rattle.scope_rules.proofs.FaultLaws as F
+use Rattle.erl_scope_rules.specs.declared.fault.PlacedFault.{PlacedFault}
+use Rattle.erl_scope_rules.specs.declared.role.Role.{Role}
+use Rattle.erl_scope_rules.specs.declared.role.Role.TheVariants.{Met, Renewed}
+use Rattle.erl_scope_rules.specs.Occurrences as O
+use Rattle.erl_scope_rules.specs.ScopeFaults.{faults_of_each, faults_of_optional, declared_faults, fields_faults, get_faults, clause_kind_faults, expr_faults, assoc_faults, catch_faults}
+use Rattle.erl_scope_rules.proofs.OccurrenceLaws as L
+use Rattle.erl_scope_rules.proofs.FaultLaws as F
 use Rattle.runs_with_right_names.proofs.Held.{has, AssociationHeld}
 use Rattle.runs_with_right_names.proofs.HeldValues.{no_entries-held, change_map-held, new_record-held, changed_record-held, field_of-held}
 use Rattle.runs_with_right_names.proofs.RightParts.{append-none, each-none, clause-right, Optional}

@@ -23,12 +23,12 @@ use Rattle.erl_runs.specs.Matching.{variable_value}
 use Rattle.erl_runs.specs.Operations.{truth_of, boolean, operate, operate_one, built_in}
 use Rattle.erl_runs.specs.Running.{ends, meaning, behind, is_fun_layer, with_itself, funs_in, funs_in_choices, decided, run_operator, as_number, run_call, plain, literal}
 use Rattle.erl_runs.proofs.RunLaws as R
-use Rattle.scope_rules.specs.declared.fault.PlacedFault.{PlacedFault}
-use Rattle.scope_rules.specs.declared.fault.NameFault.TheVariants.{NoSuchFunction}
-use Rattle.scope_rules.specs.Occurrences as O
-use Rattle.scope_rules.specs.ScopeFaults.{unless, faults_of_each, faults_of_optional, is_defined, is_defined_at, call_faults, expr_kind_faults, expr_faults, qualifier_faults}
-use Rattle.scope_rules.proofs.OccurrenceLaws as L
-use Rattle.scope_rules.proofs.FaultLaws as F
+use Rattle.erl_scope_rules.specs.declared.fault.PlacedFault.{PlacedFault}
+use Rattle.erl_scope_rules.specs.declared.fault.NameFault.TheVariants.{NoSuchFunction}
+use Rattle.erl_scope_rules.specs.Occurrences as O
+use Rattle.erl_scope_rules.specs.ScopeFaults.{unless, faults_of_each, faults_of_optional, is_defined, is_defined_at, call_faults, expr_kind_faults, expr_faults, qualifier_faults}
+use Rattle.erl_scope_rules.proofs.OccurrenceLaws as L
+use Rattle.erl_scope_rules.proofs.FaultLaws as F
 use Rattle.runs_with_right_names.proofs.Held.{has}
 use Rattle.runs_with_right_names.proofs.HeldValues.{variable-held, list_with-held, tuple-held, string-held, boolean-held, operate-held, operate_one-held, built_in-held, built_in-there}
 use Rattle.runs_with_right_names.proofs.RightParts.{append-none, every-split, unless-holds, Optional}

@@ -15,12 +15,12 @@ use Rattle.erl_runs.specs.Value.{Value, nil, Environment, wrong, Run}
 use Rattle.erl_runs.specs.Operations.{Association}
 use Rattle.erl_runs.specs.Running.{Part, with_itself, is_fun_layer, funs_in, behind, run_all, run_body, run_qualifiers, is_true}
 use Rattle.erl_runs.proofs.RunLaws as R
-use Rattle.scope_rules.specs.declared.fault.PlacedFault.{PlacedFault}
-use Rattle.scope_rules.specs.Occurrences.{Mark}
-use Rattle.scope_rules.specs.Occurrences as O
-use Rattle.scope_rules.specs.ScopeFaults.{faults_of_each, faults_of_optional, expr_kind_faults, item_kind_faults, qualifier_kind_faults, assoc_kind_faults, clause_kind_faults, expr_faults, qualifier_faults, assoc_faults}
-use Rattle.scope_rules.proofs.OccurrenceLaws.{guard_at, body_in}
-use Rattle.scope_rules.proofs.FaultLaws.{body_faults}
+use Rattle.erl_scope_rules.specs.declared.fault.PlacedFault.{PlacedFault}
+use Rattle.erl_scope_rules.specs.Occurrences.{Mark}
+use Rattle.erl_scope_rules.specs.Occurrences as O
+use Rattle.erl_scope_rules.specs.ScopeFaults.{faults_of_each, faults_of_optional, expr_kind_faults, item_kind_faults, qualifier_kind_faults, assoc_kind_faults, clause_kind_faults, expr_faults, qualifier_faults, assoc_faults}
+use Rattle.erl_scope_rules.proofs.OccurrenceLaws.{guard_at, body_in}
+use Rattle.erl_scope_rules.proofs.FaultLaws.{body_faults}
 use Rattle.runs_with_right_names.specs.KnownValues.{HasVariables}
 use Rattle.runs_with_right_names.proofs.Held.{has, AssociationHeld}
 use Rattle.runs_with_right_names.proofs.RightParts.{append-none, Optional}

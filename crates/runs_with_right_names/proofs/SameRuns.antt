@@ -19,9 +19,9 @@ use Rattle.erl_tree.specs.Lists.{Every}
 use Rattle.erl_runs.specs.Value.{Value, Environment, no_bindings, Run}
 use Rattle.erl_runs.specs.Running.{still_going, is_true, taken_anew, run_clauses, funs_in_choices}
 use Rattle.erl_runs.proofs.RunLaws.{Trees}
-use Rattle.scope_rules.specs.declared.role.Role.TheVariants.{Met}
-use Rattle.scope_rules.specs.Occurrences as O
-use Rattle.scope_rules.specs.ScopeFaults.{expr_faults, clause_kind_faults}
+use Rattle.erl_scope_rules.specs.declared.role.Role.TheVariants.{Met}
+use Rattle.erl_scope_rules.specs.Occurrences as O
+use Rattle.erl_scope_rules.specs.ScopeFaults.{expr_faults, clause_kind_faults}
 use Rattle.runs_with_right_names.specs.KnownValues.{HasFuns, HasVariables}
 use Rattle.runs_with_right_names.proofs.Held.{EndsHeld, SameRun, row-weaker}
 use Rattle.runs_with_right_names.proofs.RightParts.{Optional}

@@ -15,12 +15,12 @@ use Rattle.erl_runs.specs.Matching.{shadowed_by, match_pattern}
 use Rattle.erl_runs.specs.Operations.{truth_of, elements_of, Association}
 use Rattle.erl_runs.specs.Running.{gives, behind, anew, passing, passing_truth, matched, front, environments_of, generated}
 use Rattle.erl_runs.proofs.RunLaws as R
-use Rattle.scope_rules.specs.declared.role.Role.{Role}
-use Rattle.scope_rules.specs.declared.role.Role.TheVariants.{Met, Renewed}
-use Rattle.scope_rules.specs.Occurrences as O
-use Rattle.scope_rules.specs.ScopeFaults.{faults_of_each, faults_of_optional, expr_faults, pattern_faults, clause_kind_faults}
-use Rattle.scope_rules.proofs.OccurrenceLaws as L
-use Rattle.scope_rules.proofs.FaultLaws as F
+use Rattle.erl_scope_rules.specs.declared.role.Role.{Role}
+use Rattle.erl_scope_rules.specs.declared.role.Role.TheVariants.{Met, Renewed}
+use Rattle.erl_scope_rules.specs.Occurrences as O
+use Rattle.erl_scope_rules.specs.ScopeFaults.{faults_of_each, faults_of_optional, expr_faults, pattern_faults, clause_kind_faults}
+use Rattle.erl_scope_rules.proofs.OccurrenceLaws as L
+use Rattle.erl_scope_rules.proofs.FaultLaws as F
 use Rattle.runs_with_right_names.proofs.Held.{has, AssociationHeld}
 use Rattle.runs_with_right_names.proofs.HeldValues.{elements-held}
 use Rattle.runs_with_right_names.proofs.RightParts.{append-none, Optional}

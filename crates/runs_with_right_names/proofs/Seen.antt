@@ -13,11 +13,11 @@ use Rattle.erl_tree.specs.declared.form.TreeForm.TheVariants as F
 use Rattle.erl_tree.specs.declared.form.Module.{Module}
 use Rattle.erl_tree.specs.Lists.{Among, Every}
 use Rattle.erl_tree.specs.Functions.{functions_in, functions_of}
-use Rattle.scope_rules.specs.declared.role.Role.{Role}
-use Rattle.scope_rules.specs.declared.role.Role.TheVariants.{Used, Met, Renewed}
-use Rattle.scope_rules.specs.Occurrences.{Mark, Occurrence, Part, seeing, behind, in_turn, side_by_side, is_named_among, mark_behind, marks_behind, row_variables, row_marks, Step, Body, body, qualifiers, generated, unseen, comprehension, clause_from, clause_part, function_occurrences, form_occurrences, forms_occurrences}
-use Rattle.scope_rules.specs.Bindings.{innermost, bound_by_role}
-use Rattle.scope_rules.specs.ScopeFaults.{at, stands_among, role_fault, faults_of_optional, occurrence_faults, HasRightNames}
+use Rattle.erl_scope_rules.specs.declared.role.Role.{Role}
+use Rattle.erl_scope_rules.specs.declared.role.Role.TheVariants.{Used, Met, Renewed}
+use Rattle.erl_scope_rules.specs.Occurrences.{Mark, Occurrence, Part, seeing, behind, in_turn, side_by_side, is_named_among, mark_behind, marks_behind, row_variables, row_marks, Step, Body, body, qualifiers, generated, unseen, comprehension, clause_from, clause_part, function_occurrences, form_occurrences, forms_occurrences}
+use Rattle.erl_scope_rules.specs.Bindings.{innermost, bound_by_role}
+use Rattle.erl_scope_rules.specs.ScopeFaults.{at, stands_among, role_fault, faults_of_optional, occurrence_faults, HasRightNames}
 use Rattle.runs_with_right_names.specs.KnownValues.{is_use, is_free}
 use Rattle.runs_with_right_names.proofs.RightParts.{every-split, every-of, occurrences-right}
 

@@ -10,10 +10,10 @@ use Rattle.erl_runs.specs.Value.{Value, integer, atom, nil, cons, tuple, map_of,
 use Rattle.erl_runs.specs.Matching.{variable_value}
 use Rattle.erl_runs.specs.Records.{records_of}
 use Rattle.erl_runs.specs.Running.{code_of}
-use Rattle.scope_rules.specs.declared.role.Role.{Role}
-use Rattle.scope_rules.specs.declared.role.Role.TheVariants.{Used, Met, Renewed}
-use Rattle.scope_rules.specs.Occurrences.{Occurrence, is_named_among, expr_part}
-use Rattle.scope_rules.specs.ScopeFaults.{is_defined, expr_faults}
+use Rattle.erl_scope_rules.specs.declared.role.Role.{Role}
+use Rattle.erl_scope_rules.specs.declared.role.Role.TheVariants.{Used, Met, Renewed}
+use Rattle.erl_scope_rules.specs.Occurrences.{Occurrence, is_named_among, expr_part}
+use Rattle.erl_scope_rules.specs.ScopeFaults.{is_defined, expr_faults}
 
 -- ---- funs in values
 

@@ -6,7 +6,7 @@ ghost use Rattle.erl_tree.specs.declared.token.Node.{Node};
 ghost use Rattle.erl_tree.specs.SmallText.{small_module};
 ghost use Rattle.erl_runs.specs.SmallPrograms.{one};
 ghost use Rattle.erl_runs.specs.Value.{cons, nil, named_fun, closure, no_bindings};
-ghost use Rattle.scope_rules.specs.ScopeFaults.{HasRightNames};
+ghost use Rattle.erl_scope_rules.specs.ScopeFaults.{HasRightNames};
 ghost use Rattle.runs_with_right_names.specs.KnownValues.{IsKnown};
 ghost use Rattle.runs_with_right_names.specs.SameRuns.{MeetsNoUnboundName};
 ghost use Rattle.runs_with_right_names.specs.SmallModules.{gives_x, gives_y, calls_g, fun_f, fun_g, fun_of_y, fun_of_g, with_y};

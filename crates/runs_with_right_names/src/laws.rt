@@ -9,7 +9,7 @@ ghost use Rattle.erl_tree.specs.declared.form.Module.{Module};
 ghost use Rattle.erl_tree.specs.declared.token.Node.{Node};
 ghost use Rattle.erl_runs.specs.Running.{apply, code_of};
 ghost use Rattle.erl_runs.specs.Value.{Value, named_fun};
-ghost use Rattle.scope_rules.specs.ScopeFaults.{HasRightNames};
+ghost use Rattle.erl_scope_rules.specs.ScopeFaults.{HasRightNames};
 ghost use Rattle.runs_with_right_names.specs.KnownValues.{HasFuns, IsKnown};
 ghost use Rattle.runs_with_right_names.specs.SameRuns.{IsKnownOutcome, MeetsNoUnboundName};
 

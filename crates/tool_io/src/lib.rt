@@ -140,6 +140,3 @@ pub trait Sink {
         ensures steady { IsTrue (sure self.old) → faults self.new ≡ faults self.old }
         ensures same { sure self.new ≡ sure self.old };
 }
-
-#[cfg(test)]
-mod tests;

@@ -28,6 +28,3 @@ pub use plain::Plain;
 pub use replacement::replace;
 pub use spec::{Arrow, FunSpec, Kind};
 pub use term::{Def, Field, Key, Term};
-
-#[cfg(test)]
-mod tests;

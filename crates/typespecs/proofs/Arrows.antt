@@ -13,12 +13,12 @@ use Rattle.erl_tree.specs.declared.form.SpecClauseKind.{SpecClauseKind}
 use Rattle.erl_tree.specs.declared.form.Module.{Module}
 use Rattle.erl_tree.specs.Lists.{Every}
 use Rattle.erl_runs.specs.Specs.{specs_in}
-use Rattle.type_rules.specs.declared.specs.Specs.{Specs}
-use Rattle.type_rules.specs.declared.fault.TypeFault.TheVariants.{NegatedFun}
-use Rattle.type_rules.specs.TypeParts.{from_each}
-use Rattle.type_rules.specs.TypeFaults.{HasTerms, IsNotSigned, IsWellSignedArrow, arrows_of, spec_clauses, fault_at}
+use Rattle.typespecs_rules.specs.declared.specs.Specs.{Specs}
+use Rattle.typespecs_rules.specs.declared.fault.TypeFault.TheVariants.{NegatedFun}
+use Rattle.typespecs_rules.specs.TypeParts.{from_each}
+use Rattle.typespecs_rules.specs.TypeFaults.{HasTerms, IsNotSigned, IsWellSignedArrow, arrows_of, spec_clauses, fault_at}
 use Rattle.typespecs.specs.Names.{arrows_seen, clause_places, clause_places_among}
-use Rattle.type_laws.proofs.EachHasAPlace.{arrow-clauses}
+use Rattle.typespecs_lemmas.proofs.EachHasAPlace.{arrow-clauses}
 use Rattle.typespecs.proofs.Inversion.{some-is}
 
 -- ---- one of a list

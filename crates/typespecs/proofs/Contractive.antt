@@ -9,12 +9,12 @@ use Rattle.type_terms.specs.declared.term.Def.{Def}
 use Rattle.type_terms.specs.declared.defs.DefFault.TheVariants as D
 use Rattle.erl_tree.specs.declared.token.Place.{Place}
 use Rattle.erl_tree.specs.declared.form.Module.{Module}
-use Rattle.type_rules.specs.declared.fault.TypeFault.TheVariants.{NotContractive}
-use Rattle.type_rules.specs.declared.specs.Specs.{Specs}
-use Rattle.type_rules.specs.SpecTerms.{module_specs}
-use Rattle.type_rules.specs.TypeFaults.{IsFirstFault, of_definitions, name_places, fault_at}
-use Rattle.type_laws.proofs.EachHasAPlace.{definition-places}
-use Rattle.type_laws.proofs.GivenReach.{given-reach-nothing}
+use Rattle.typespecs_rules.specs.declared.fault.TypeFault.TheVariants.{NotContractive}
+use Rattle.typespecs_rules.specs.declared.specs.Specs.{Specs}
+use Rattle.typespecs_rules.specs.SpecTerms.{module_specs}
+use Rattle.typespecs_rules.specs.TypeFaults.{IsFirstFault, of_definitions, name_places, fault_at}
+use Rattle.typespecs_lemmas.proofs.EachHasAPlace.{definition-places}
+use Rattle.typespecs_lemmas.proofs.GivenReach.{given-reach-nothing}
 use Rattle.typespecs.specs.TextFaults.{HasNoTextFault}
 use Rattle.typespecs.proofs.Arrows.{slice_there}
 

@@ -13,15 +13,15 @@ use Rattle.erl_tree.specs.declared.form.SpecKind.{SpecKind}
 use Rattle.erl_tree.specs.declared.form.SpecClauseKind.{SpecClauseKind}
 use Rattle.erl_tree.specs.Lists.{Among}
 use Rattle.type_terms.specs.declared.spec.FunSpec.{FunSpec}
-use Rattle.type_rules.specs.Bounds.{IsCyclic}
+use Rattle.typespecs_rules.specs.Bounds.{IsCyclic}
 use Rattle.typespecs.specs.CyclicBounds.{HaveNoCyclicBound}
 use Rattle.type_terms.specs.declared.list.NoMemory.{NoMemory}
 use Rattle.type_terms.specs.Definitions.{given_definitions}
 use Rattle.std.specs.Prelude.{slice_get}
 use Rattle.std.specs.Option.{option_map}
 use Rattle.erl_tree.specs.declared.form.Module.{Module}
-use Rattle.type_rules.specs.Declarations.{Declarations, declarations_of, types_in}
-use Rattle.type_rules.specs.SpecTerms.{type_definition, record_definition, function_spec, definitions}
+use Rattle.typespecs_rules.specs.Declarations.{Declarations, declarations_of, types_in}
+use Rattle.typespecs_rules.specs.SpecTerms.{type_definition, record_definition, function_spec, definitions}
 use Rattle.typespecs.specs.Reads.{added, given_all, types_given, records_given}
 use Rattle.typespecs.proofs.Inversion.{some-is}
 use Rattle.typespecs.proofs.Present.{one-added, both-there, none-behind, none-before}

@@ -3,13 +3,13 @@ use Rattle.std.proofs.Common.{◌≡◌, ◌⊎◌, List, [], ◌∷◌, refl, s
 use Rattle.std.specs.Prelude.{MatchOption, cond}
 use Rattle.erl_tree.specs.declared.form.Module.{Module}
 use Rattle.erl_tree.specs.Lists.{Among, Every}
-use Rattle.type_rules.specs.declared.fault.PlacedFault.{PlacedFault}
-use Rattle.type_rules.specs.TypeFaults.{IsTextFault, at_one_place, bound_leads_back, not_regular, is_earlier, listed_faults}
-use Rattle.type_rules.specs.Earliest.{earliest}
-use Rattle.type_checks.proofs.EarliestLaws.{earliest-stands, earliest-first, earliest-none}
-use Rattle.type_graphs.specs.GraphFaults.{IsGraphFault}
-use Rattle.type_graphs.specs.GraphFaults as G
-use Rattle.type_graphs.proofs.FaultOrder.{not-back, not-onward}
+use Rattle.typespecs_rules.specs.declared.fault.PlacedFault.{PlacedFault}
+use Rattle.typespecs_rules.specs.TypeFaults.{IsTextFault, at_one_place, bound_leads_back, not_regular, is_earlier, listed_faults}
+use Rattle.typespecs_rules.specs.Earliest.{earliest}
+use Rattle.typespecs_faults.proofs.EarliestLaws.{earliest-stands, earliest-first, earliest-none}
+use Rattle.typespecs_cycles.specs.GraphFaults.{IsGraphFault}
+use Rattle.typespecs_cycles.specs.GraphFaults as G
+use Rattle.typespecs_cycles.proofs.FaultOrder.{not-back, not-onward}
 use Rattle.typespecs.specs.TextFaults.{IsFirstOfText}
 use Rattle.typespecs.specs.FirstOfTwo.{first_of_two}
 

@@ -10,10 +10,10 @@ use Rattle.erl_tree.specs.declared.form.TreeForm.TheVariants as F
 use Rattle.erl_tree.specs.declared.form.RecFieldKind.{RecFieldKind}
 use Rattle.erl_runs.specs.Records.{records_in, fields_of}
 use Rattle.erl_runs.specs.Specs.{specs_in}
-use Rattle.type_rules.specs.Declarations.{types_in, record_forms_in}
-use Rattle.type_rules.specs.TypeParts.{from_each}
-use Rattle.type_rules.specs.declared.specs.RecordSpec.{RecordSpec}
-use Rattle.type_rules.specs.SpecTerms.{records_from}
+use Rattle.typespecs_rules.specs.Declarations.{types_in, record_forms_in}
+use Rattle.typespecs_rules.specs.TypeParts.{from_each}
+use Rattle.typespecs_rules.specs.declared.specs.RecordSpec.{RecordSpec}
+use Rattle.typespecs_rules.specs.SpecTerms.{records_from}
 use Rattle.typespecs.specs.Names.{name_of, names_among, type_place, type_places_among, record_place, record_places_among, clause_places, clause_places_among}
 
 pub types_in_append : (xs ys : List TreeForm) → types_in (xs ++ ys) ≡ types_in xs ++ types_in ys

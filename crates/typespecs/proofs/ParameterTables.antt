@@ -6,9 +6,9 @@ use Rattle.std.specs.Option.{option_map, option_or, option_copied}
 use Rattle.type_terms.specs.Keys.{Name, same_name}
 use Rattle.type_terms.specs.declared.term.Term.{Term, Var}
 use Rattle.type_terms.proofs.KeyLaws.{name-is}
-use Rattle.type_rules.specs.Declarations.{position}
-use Rattle.type_rules.specs.TypeVariables.{parameters}
-use Rattle.spec_reader.proofs.NameLaws.{position-push, same-sym}
+use Rattle.typespecs_rules.specs.Declarations.{position}
+use Rattle.typespecs_rules.specs.TypeVariables.{parameters}
+use Rattle.typespecs_clauses.proofs.NameLaws.{position-push, same-sym}
 
 abbrev by_place : Option ℕ → Option Term
 by_place p = option_map (λ i. Var (0 + i)) p

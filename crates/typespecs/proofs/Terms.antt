@@ -9,12 +9,12 @@ use Rattle.erl_tree.specs.declared.form.SpecKind.{SpecKind}
 use Rattle.erl_tree.specs.declared.form.Module.{Module}
 use Rattle.erl_tree.specs.Lists.{Among}
 use Rattle.erl_runs.specs.Specs.{and_then, specs_in}
-use Rattle.type_rules.specs.declared.specs.Specs.{Specs}
-use Rattle.type_rules.specs.Declarations.{declarations_of}
-use Rattle.type_rules.specs.TypeParts.{from_each}
-use Rattle.type_rules.specs.SpecTerms.{definitions, function_specs, type_names, record_specs}
-use Rattle.type_laws.proofs.TextFaults.{no-cyclic-bound}
-use Rattle.type_laws.proofs.ModuleTerms.{specs-there}
+use Rattle.typespecs_rules.specs.declared.specs.Specs.{Specs}
+use Rattle.typespecs_rules.specs.Declarations.{declarations_of}
+use Rattle.typespecs_rules.specs.TypeParts.{from_each}
+use Rattle.typespecs_rules.specs.SpecTerms.{definitions, function_specs, type_names, record_specs}
+use Rattle.typespecs_lemmas.proofs.TextFaults.{no-cyclic-bound}
+use Rattle.typespecs_lemmas.proofs.ModuleTerms.{specs-there}
 use Rattle.typespecs.specs.CyclicBounds.{HaveNoCyclicBound}
 use Rattle.typespecs.specs.TextFaults.{HasNoTextFault}
 use Rattle.typespecs.proofs.Inversion.{false-true}

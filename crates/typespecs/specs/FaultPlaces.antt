@@ -1,8 +1,8 @@
 -- What an answer tells: the fault and its place. Want of memory tells none.
 use Rattle.std.specs.Prelude.{Option, Some, None}
-use Rattle.type_rules.specs.declared.fault.PlacedFault.{PlacedFault}
-use Rattle.type_rules.specs.declared.fault.TypeFault.TheVariants as T
-use Rattle.type_rules.specs.TypeFaults.{fault_at}
+use Rattle.typespecs_rules.specs.declared.fault.PlacedFault.{PlacedFault}
+use Rattle.typespecs_rules.specs.declared.fault.TypeFault.TheVariants as T
+use Rattle.typespecs_rules.specs.TypeFaults.{fault_at}
 use Rattle.typespecs.specs.declared.fault.SpecFault.{SpecFault}
 use Rattle.typespecs.specs.declared.fault.SpecFault.TheVariants as S
 

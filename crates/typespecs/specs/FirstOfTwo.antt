@@ -1,7 +1,7 @@
 -- The first of two faults, of which each may be missing.
 use Rattle.std.specs.Prelude.{Option, Some, None, cond}
-use Rattle.type_rules.specs.declared.fault.PlacedFault.{PlacedFault}
-use Rattle.type_rules.specs.TypeFaults.{is_earlier}
+use Rattle.typespecs_rules.specs.declared.fault.PlacedFault.{PlacedFault}
+use Rattle.typespecs_rules.specs.TypeFaults.{is_earlier}
 
 abbrev pub first_of_two : Option PlacedFault → Option PlacedFault → Option PlacedFault
 first_of_two None new = new

@@ -10,9 +10,9 @@ use Rattle.erl_tree.specs.declared.form.SpecKind.{SpecKind}
 use Rattle.erl_tree.specs.declared.form.SpecClauseKind.{SpecClauseKind}
 use Rattle.erl_tree.specs.declared.form.TreeForm.{TreeForm}
 use Rattle.erl_runs.specs.Specs.{specs_in}
-use Rattle.type_rules.specs.declared.specs.TypeName.{TypeName}
-use Rattle.type_rules.specs.Declarations.{types_in, record_forms_in}
-use Rattle.type_rules.specs.TypeParts.{from_each}
+use Rattle.typespecs_rules.specs.declared.specs.TypeName.{TypeName}
+use Rattle.typespecs_rules.specs.Declarations.{types_in, record_forms_in}
+use Rattle.typespecs_rules.specs.TypeParts.{from_each}
 
 -- a type's name and the number of its parameters
 abbrev pub name_of : TypeDefKind → TypeName

@@ -6,13 +6,13 @@ use Rattle.type_terms.specs.declared.spec.FunSpec.{FunSpec}
 use Rattle.erl_tree.specs.declared.form.TreeForm.{TreeForm}
 use Rattle.erl_runs.specs.Records.{records_in}
 use Rattle.erl_runs.specs.Specs.{all_present, specs_in}
-use Rattle.type_rules.specs.Declarations.{Declarations, types_in}
-use Rattle.type_rules.specs.TypeTerms.{record_tuple}
-use Rattle.type_rules.specs.TypeVariables.{parameters}
-use Rattle.type_rules.specs.SpecTerms.{type_definition, record_definition, function_spec}
-use Rattle.type_tables.specs.Numbers.{KnowsNumbers}
-use Rattle.type_reader.specs.declared.tables.TermTable.{TermTable}
-use Rattle.type_reader.specs.Tables.{terms_in, tuples_in}
+use Rattle.typespecs_rules.specs.Declarations.{Declarations, types_in}
+use Rattle.typespecs_rules.specs.TypeTerms.{record_tuple}
+use Rattle.typespecs_rules.specs.TypeVariables.{parameters}
+use Rattle.typespecs_rules.specs.SpecTerms.{type_definition, record_definition, function_spec}
+use Rattle.typespecs_names.specs.Numbers.{KnowsNumbers}
+use Rattle.typespecs_terms.specs.declared.tables.TermTable.{TermTable}
+use Rattle.typespecs_terms.specs.Tables.{terms_in, tuples_in}
 use Rattle.typespecs.specs.declared.definitions.Declared.{Declared}
 
 -- the numbers and the tuples are those of these declarations

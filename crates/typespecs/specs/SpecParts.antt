@@ -1,8 +1,8 @@
 -- What is read of a module before its definitions are looked at together.
 use Rattle.std.specs.Prelude.{◌≡◌, Some}
 use Rattle.erl_tree.specs.declared.form.Module.{Module}
-use Rattle.type_rules.specs.SpecTerms.{module_specs}
-use Rattle.type_rules.specs.declared.specs.Specs.{Specs}
+use Rattle.typespecs_rules.specs.SpecTerms.{module_specs}
+use Rattle.typespecs_rules.specs.declared.specs.Specs.{Specs}
 use Rattle.typespecs.specs.declared.assembly.SpecParts.{SpecParts}
 
 -- the same, with the definitions as a plain list

@@ -1,8 +1,8 @@
 -- The first fault that is told by a module's text.
 use Rattle.std.specs.Prelude.{◌≡◌, Option, Some, None, false}
 use Rattle.erl_tree.specs.declared.form.Module.{Module}
-use Rattle.type_rules.specs.declared.fault.PlacedFault.{PlacedFault}
-use Rattle.type_rules.specs.TypeFaults.{IsTextFault, is_earlier}
+use Rattle.typespecs_rules.specs.declared.fault.PlacedFault.{PlacedFault}
+use Rattle.typespecs_rules.specs.TypeFaults.{IsTextFault, is_earlier}
 
 -- there is none
 abbrev pub HasNoTextFault : Module → Type 0

@@ -3,11 +3,11 @@
 ghost use Rattle.std.specs.Prelude.{◌≡◌, ◌∷◌, [], Some, IfErr, IfOk, IfSome};
 ghost use Rattle.erl_runs.specs.Specs.{specs_in};
 ghost use Rattle.type_terms.specs.Definitions.{IsContractive};
-ghost use Rattle.type_rules.specs.Declarations.{Declarations, declarations_of};
-ghost use Rattle.type_rules.specs.SpecTerms as terms;
-ghost use Rattle.type_rules.specs.SpecTerms.{module_specs};
-ghost use Rattle.type_rules.specs.TypeFaults.{IsFirstFault};
-ghost use Rattle.type_tables.specs.Numbers.{KnowsNumbers};
+ghost use Rattle.typespecs_rules.specs.Declarations.{Declarations, declarations_of};
+ghost use Rattle.typespecs_rules.specs.SpecTerms as terms;
+ghost use Rattle.typespecs_rules.specs.SpecTerms.{module_specs};
+ghost use Rattle.typespecs_rules.specs.TypeFaults.{IsFirstFault};
+ghost use Rattle.typespecs_names.specs.Numbers.{KnowsNumbers};
 ghost use Rattle.typespecs.specs.FaultPlaces.{placed_fault};
 ghost use Rattle.typespecs.specs.Reads.{ReadsDeclared, specs_given};
 ghost use Rattle.typespecs.specs.SpecParts.{ArePartsOf};
@@ -19,12 +19,12 @@ use crate::fault::SpecFault;
 use crate::names::{name_places, type_names};
 use crate::records::record_specs;
 use erl_tree::{Module, TreeForm};
-use record_tuples::record_tuples;
-use spec_reader::read_spec;
 use std::alloc::Global;
-use type_rules::{RecordSpec, Specs, TypeName};
-use type_tables::DeclaredNumbers;
 use type_terms::{Def, DefFault, Defs, FunSpec, List, NoMemory};
+use typespecs_clauses::read_spec;
+use typespecs_names::DeclaredNumbers;
+use typespecs_records::record_tuples;
+use typespecs_rules::{RecordSpec, Specs, TypeName};
 
 /// What is read of a module, before its definitions are looked at together.
 #[derive(Drop)]

@@ -4,19 +4,19 @@ ghost use Rattle.std.specs.Prelude.{◌≡◌, ◌∷◌, ◌++◌, [], List as 
 ghost use Rattle.type_terms.specs.Keys.{Name};
 ghost use Rattle.type_terms.specs.Definitions as given;
 ghost use Rattle.type_terms.specs.Definitions.{given_definitions};
-ghost use Rattle.type_rules.specs.Declarations.{Declarations, declarations_of};
-ghost use Rattle.type_rules.specs.SpecTerms as terms;
+ghost use Rattle.typespecs_rules.specs.Declarations.{Declarations, declarations_of};
+ghost use Rattle.typespecs_rules.specs.SpecTerms as terms;
 ghost use Rattle.typespecs.specs.Reads.{ReadsDeclared, added, types_given, records_given, parameters_in};
 
-use built_in_types::nonempty_list_of;
 use erl_tree::{Module, RecDefKind, TreeForm, TypeDefKind};
-use record_tuples::record_term;
-use spec_reader::narrow;
 use sqlite_items::Boxed;
 use std::alloc::Global;
-use type_reader::{Reading, TermTable, TupleTable, read_type};
-use type_tables::DeclaredNumbers;
 use type_terms::{Def, List, NoMemory, Term, Text};
+use typespecs_built_ins::nonempty_list_of;
+use typespecs_clauses::narrow;
+use typespecs_names::DeclaredNumbers;
+use typespecs_records::record_term;
+use typespecs_terms::{Reading, TermTable, TupleTable, read_type};
 
 /// What the types of a module are read by.
 #[derive(Clone, Copy)]

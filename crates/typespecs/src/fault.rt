@@ -4,8 +4,8 @@ ghost use Rattle.std.specs.Prelude.{◌≡◌, Some};
 ghost use Rattle.typespecs.specs.FaultPlaces.{placed_fault};
 
 use erl_tree::Place;
-use type_rules::{Outside, PlacedFault, TypeFault};
 use type_terms::NoMemory;
+use typespecs_rules::{Outside, PlacedFault, TypeFault};
 
 /// Why the types, records and specs of a module are refused: the first fault in the text, at its place, and of two at one
 /// place the one whose kind stands first here. Lines and columns count from 1.

@@ -1,18 +1,18 @@
 //! The first fault that is told by a module's text.
 
 ghost use Rattle.std.specs.Prelude.{◌≡◌, IfOk};
-ghost use Rattle.type_rules.specs.Declarations.{declarations_of};
-ghost use Rattle.type_tables.specs.Numbers.{KnowsNumbers};
+ghost use Rattle.typespecs_rules.specs.Declarations.{declarations_of};
+ghost use Rattle.typespecs_names.specs.Numbers.{KnowsNumbers};
 ghost use Rattle.typespecs.specs.TextFaults.{IsFirstOfText};
 ghost use Rattle.typespecs.specs.FirstOfTwo.{first_of_two};
 
 use erl_tree::Module;
 use std::alloc::Global;
-use type_checks::first_listed_fault;
-use type_graphs::first_graph_fault;
-use type_rules::{PlacedFault, is_earlier};
-use type_tables::DeclaredNumbers;
 use type_terms::NoMemory;
+use typespecs_cycles::first_graph_fault;
+use typespecs_faults::first_listed_fault;
+use typespecs_names::DeclaredNumbers;
+use typespecs_rules::{PlacedFault, is_earlier};
 
 /// The first of the fault that stands and a new one. The one that stands, where neither is earlier.
 fn first_of(standing: Option<PlacedFault>, new: Option<PlacedFault>) -> Option<PlacedFault>

@@ -1,16 +1,16 @@
 //! The names of types, and where the names of types and records stand.
 
 ghost use Rattle.std.specs.Prelude.{◌≡◌, ◌++◌, ◌∷◌, [], get_or, IfOk, OnOk};
-ghost use Rattle.type_rules.specs.Declarations.{declarations_of};
-ghost use Rattle.type_rules.specs.SpecTerms as terms;
-ghost use Rattle.type_rules.specs.TypeFaults as faults;
+ghost use Rattle.typespecs_rules.specs.Declarations.{declarations_of};
+ghost use Rattle.typespecs_rules.specs.SpecTerms as terms;
+ghost use Rattle.typespecs_rules.specs.TypeFaults as faults;
 ghost use Rattle.typespecs.specs.Names.{name_of, names_among, type_place, type_places_among, record_place, record_places_among};
 
 use erl_tree::{Module, Node, Place, RecDefKind, TreeForm, TypeDefKind};
-use spec_reader::narrow;
 use std::alloc::Global;
-use type_rules::TypeName;
 use type_terms::{List, NoMemory, Plain};
+use typespecs_clauses::narrow;
+use typespecs_rules::TypeName;
 
 fn type_name(alloc: Global, declaration: &TypeDefKind) -> Result<TypeName, NoMemory>
     ensures { IfOk result (λ name. name ≡ name_of declaration.now) }

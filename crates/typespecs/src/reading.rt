@@ -1,7 +1,7 @@
 //! The types, records and specs of a whole module.
 
 ghost use Rattle.std.specs.Prelude.{IfErr, IfOk, IfSome};
-ghost use Rattle.type_rules.specs.TypeFaults.{HasSpecs, IsFirstFault};
+ghost use Rattle.typespecs_rules.specs.TypeFaults.{HasSpecs, IsFirstFault};
 ghost use Rattle.typespecs.specs.FaultPlaces.{placed_fault};
 
 use crate::assembly::{read_parts, with_definitions};
@@ -10,8 +10,8 @@ use crate::first::first_text_fault;
 use crate::signs::first_negated;
 use erl_tree::Module;
 use std::alloc::Global;
-use type_rules::Specs;
-use type_tables::DeclaredNumbers;
+use typespecs_names::DeclaredNumbers;
+use typespecs_rules::Specs;
 
 /// Reads the type declarations, records and specs of a module (Erlang Reference Manual, "Types and Function Specifications",
 /// "Records"). Where nothing is wrong with them, it gives what they are: the definitions, and for each function its arrows.

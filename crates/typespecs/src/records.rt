@@ -2,15 +2,15 @@
 
 ghost use Rattle.std.specs.Prelude.{◌≡◌, ◌+◌, ◌++◌, ◌∷◌, [], IfOk, OnOk, length, map};
 ghost use Rattle.erl_runs.specs.Records.{fields_of, records_in};
-ghost use Rattle.type_rules.specs.Declarations.{declarations_of};
-ghost use Rattle.type_rules.specs.SpecTerms as terms;
-ghost use Rattle.type_rules.specs.SpecTerms.{records_from};
+ghost use Rattle.typespecs_rules.specs.Declarations.{declarations_of};
+ghost use Rattle.typespecs_rules.specs.SpecTerms as terms;
+ghost use Rattle.typespecs_rules.specs.SpecTerms.{records_from};
 
 use erl_tree::{Module, Node, RecDefKind, RecFieldKind, TreeForm};
-use spec_reader::narrow;
 use std::alloc::Global;
-use type_rules::RecordSpec;
 use type_terms::{List, NoMemory, Plain, Text};
+use typespecs_clauses::narrow;
+use typespecs_rules::RecordSpec;
 
 /// The names of fields.
 fn field_names(alloc: Global, fields: &[Node<RecFieldKind>]) -> Result<List<Text>, NoMemory>

@@ -5,15 +5,15 @@ ghost use Rattle.erl_tree.specs.Lists.{Every};
 ghost use Rattle.type_terms.specs.Signs.{IsWellSigned};
 ghost use Rattle.type_terms.specs.declared.spec.Arrow.{Arrow};
 ghost use Rattle.type_terms.specs.declared.spec.FunSpec.{FunSpec};
-ghost use Rattle.type_rules.specs.TypeParts.{from_each};
-ghost use Rattle.type_rules.specs.declared.fault.TypeFault.TheVariants.{NegatedFun};
-ghost use Rattle.type_rules.specs.TypeFaults.{HasTerms, IsNotSigned, IsWellSignedArrow, arrows_of, fault_at};
+ghost use Rattle.typespecs_rules.specs.TypeParts.{from_each};
+ghost use Rattle.typespecs_rules.specs.declared.fault.TypeFault.TheVariants.{NegatedFun};
+ghost use Rattle.typespecs_rules.specs.TypeFaults.{HasTerms, IsNotSigned, IsWellSignedArrow, arrows_of, fault_at};
 ghost use Rattle.typespecs.specs.Names.{arrows_seen, clause_places_among};
 
 use erl_tree::{Module, Place, SpecClause, TreeForm};
 use std::alloc::Global;
-use type_rules::Specs;
 use type_terms::{Arrow, Defs, FunSpec, List, NoMemory, Term, well_signed};
+use typespecs_rules::Specs;
 
 fn are_signed(terms: &[Term], defs: &Defs) -> bool
     ensures { IsTrue result ↔ Every (IsWellSigned defs.now) terms.now }

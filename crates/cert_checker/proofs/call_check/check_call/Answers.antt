@@ -3,7 +3,7 @@ use Rattle.std.specs.Prelude.{Option, Some, None}
 use Rattle.std.proofs.lemmas.Result.{err_from_is_err_and}
 use Rattle.erl_tree.specs.Lists.{Among}
 use Rattle.erl_tree.specs.Functions.{FunctionId, of_function}
-use Rattle.function_table.specs.Table.{Entry, IsFound, ids}
+use Rattle.name_table.specs.Table.{Entry, IsFound, ids}
 use Rattle.cert_checker.proofs.CallChecks.{called-types, as-many, typed, fails, is-called}
 use Rattle.cert_checker.proofs.call_check.check_call.Goals as goal
 

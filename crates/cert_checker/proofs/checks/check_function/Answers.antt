@@ -3,7 +3,7 @@ use Rattle.std.specs.Prelude.{Option, Some, None}
 use Rattle.std.proofs.lemmas.Result.{on_ok_weaker, IfErr-weaker}
 use Rattle.erl_tree.specs.Lists.{Among}
 use Rattle.erl_tree.specs.Functions.{FunctionId, of_function}
-use Rattle.function_table.specs.Table.{Entry, IsFound, ids}
+use Rattle.name_table.specs.Table.{Entry, IsFound, ids}
 use Rattle.cert_checker.proofs.ModuleChecks.{function-types, clauses-judged, function-holds, function-fails, function-found}
 use Rattle.cert_checker.proofs.checks.check_function.Goals as goal
 

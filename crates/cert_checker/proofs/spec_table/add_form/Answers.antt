@@ -2,7 +2,7 @@ use Rattle.std.proofs.Common.{◌≡◌, sym, ◌∙◌, ap, subst}
 use Rattle.erl_tree.specs.declared.form.SpecKind.{SpecKind}
 use Rattle.erl_tree.specs.declared.form.TreeForm.{TreeForm}
 use Rattle.erl_tree.specs.Functions.{FunctionId, of_function, spec_clauses_arity}
-use Rattle.function_table.specs.Table.{IsInsertion}
+use Rattle.name_table.specs.Table.{IsInsertion}
 use Rattle.erl_runs.specs.Specs.{specified_id}
 use Rattle.cert_checker.specs.SpecTables.{Adds}
 use Rattle.cert_checker.proofs.Tables.{insertion-adds}

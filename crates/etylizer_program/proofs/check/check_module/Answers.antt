@@ -1,6 +1,6 @@
 use Rattle.std.proofs.Common.{arith}
 use Rattle.std.proofs.lemmas.Grind.{common_steps}
-use Rattle.type_rules.specs.declared.specs.Specs.{Specs}
+use Rattle.typespecs_rules.specs.declared.specs.Specs.{Specs}
 use Rattle.erl_runs.specs.Safety.{IsSafe}
 use Rattle.etylizer_program.proofs.Verdicts.{accepted_module, of_specs}
 use Rattle.etylizer_program.proofs.check.check_module.Goals as goal

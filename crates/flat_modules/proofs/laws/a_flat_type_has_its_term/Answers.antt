@@ -1,4 +1,4 @@
-use Rattle.type_rules.specs.TypeTerms.{record_tuple}
+use Rattle.typespecs_rules.specs.TypeTerms.{record_tuple}
 use Rattle.flat_modules.proofs.FlatTypeTerms.{all-same}
 use Rattle.flat_modules.proofs.laws.a_flat_type_has_its_term.Goals as goal
 

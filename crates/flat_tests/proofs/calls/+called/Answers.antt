@@ -1,7 +1,7 @@
 use Rattle.std.proofs.Common.{arith, ap, sym}
 use Rattle.erl_tree.specs.Lists.{Among}
 use Rattle.flat_modules.specs.FlatNames.{called_in}
-use Rattle.function_table.specs.Table.{ids}
+use Rattle.name_table.specs.Table.{ids}
 use Rattle.flat_tests.specs.Names.{ExpressionCallsOnly}
 use Rattle.flat_tests.proofs.ForEach.{left_first, left_next, unmet, met}
 use Rattle.flat_tests.proofs.Parts.{of_same}

@@ -1,4 +1,4 @@
-use Rattle.function_table.specs.Table.{ids}
+use Rattle.name_table.specs.Table.{ids}
 use Rattle.flat_tests.specs.Names.{ExpressionCallsOnly}
 use Rattle.flat_tests.proofs.ForEach.{IsLeft}
 use Rattle.flat_tests.proofs.calls.+called.Given as goal

@@ -1,4 +1,4 @@
-use Rattle.function_table.specs.Table.{ids}
+use Rattle.name_table.specs.Table.{ids}
 use Rattle.flat_tests.specs.Names.{ItemCallsOnly}
 use Rattle.flat_tests.proofs.ForEach.{IsLeft}
 use Rattle.flat_tests.proofs.calls.body_calls_only_defined.Given as goal

@@ -1,5 +1,5 @@
 use Rattle.flat_modules.specs.FlatNames.{CallsOnly}
-use Rattle.function_table.specs.Table.{ids}
+use Rattle.name_table.specs.Table.{ids}
 use Rattle.flat_tests.proofs.ForEach.{IsLeft}
 use Rattle.flat_tests.proofs.calls.clauses_call_only_defined.Given as goal
 

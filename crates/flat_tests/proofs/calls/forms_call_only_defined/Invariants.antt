@@ -1,4 +1,4 @@
-use Rattle.function_table.specs.Table.{ids}
+use Rattle.name_table.specs.Table.{ids}
 use Rattle.flat_tests.specs.Names.{FormCallsOnly}
 use Rattle.flat_tests.proofs.ForEach.{IsLeft}
 use Rattle.flat_tests.proofs.calls.forms_call_only_defined.Given as goal

@@ -1,6 +1,6 @@
 use Rattle.std.proofs.Common.{◌≡◌}
 use Rattle.erl_tree.specs.Lists.{AreDistinct}
-use Rattle.function_table.specs.Table.{ids}
+use Rattle.name_table.specs.Table.{ids}
 use Rattle.flat_tests.specs.Names.{names_in}
 use Rattle.flat_tests.proofs.FunctionNames.{made_table, matching_if_ok}
 use Rattle.flat_tests.proofs.function_names.has_matching_names.Goals as goal

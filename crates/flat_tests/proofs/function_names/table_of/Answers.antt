@@ -1,4 +1,4 @@
-use Rattle.function_table.specs.Table.{ids}
+use Rattle.name_table.specs.Table.{ids}
 use Rattle.flat_tests.proofs.FunctionNames.{gathered_twice}
 use Rattle.flat_tests.proofs.function_names.table_of.Goals as goal
 

@@ -1,5 +1,5 @@
 use Rattle.std.proofs.Common.{[]}
-use Rattle.type_rules.specs.Declarations.{Declarations}
+use Rattle.typespecs_rules.specs.Declarations.{Declarations}
 use Rattle.typespecs.specs.Reads.{ReadsDeclared}
 use Rattle.typespecs.proofs.Declared.{specs_of, specs_append}
 use Rattle.typespecs.proofs.Present.{AddedTo}

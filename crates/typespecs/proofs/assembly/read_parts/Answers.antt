@@ -1,8 +1,8 @@
 use Rattle.std.proofs.Common.{◌∙◌, ap, subst, sym}
 use Rattle.erl_runs.specs.Specs.{specs_in}
-use Rattle.type_rules.specs.Declarations.{declarations_of}
-use Rattle.type_rules.specs.SpecTerms.{function_specs}
-use Rattle.type_laws.proofs.TextFaults.{no-infinite-record}
+use Rattle.typespecs_rules.specs.Declarations.{declarations_of}
+use Rattle.typespecs_rules.specs.SpecTerms.{function_specs}
+use Rattle.typespecs_lemmas.proofs.TextFaults.{no-infinite-record}
 use Rattle.typespecs.specs.CyclicBounds.{HaveNoCyclicBound}
 use Rattle.typespecs.proofs.Terms.{no-cyclic, definitions-some, functions-some, there-as}
 use Rattle.typespecs.proofs.assembly.read_parts.Goals as goal

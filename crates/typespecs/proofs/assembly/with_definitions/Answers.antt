@@ -2,8 +2,8 @@ use Rattle.std.proofs.Common.{◌∙◌, ◌-◌, ap, sym, subst}
 use Rattle.std.specs.Prelude.{slice_get}
 use Rattle.type_terms.specs.Refusals.{IsRefusedAs}
 use Rattle.typespecs.specs.SpecParts.{specs_of_parts}
-use Rattle.type_laws.proofs.WellMade.{well-made}
-use Rattle.type_laws.proofs.DefinedNames.{names-defined}
+use Rattle.typespecs_lemmas.proofs.WellMade.{well-made}
+use Rattle.typespecs_lemmas.proofs.DefinedNames.{names-defined}
 use Rattle.typespecs.proofs.Inversion.{none-some}
 use Rattle.typespecs.proofs.Contractive.{at-least-two, place-there, reaches-itself}
 use Rattle.typespecs.proofs.assembly.with_definitions.Goals as goal

@@ -1,6 +1,6 @@
 use Rattle.std.proofs.Common.{◌∙◌, ap, sym}
 use Rattle.std.specs.Prelude.{is_some}
-use Rattle.type_reader.specs.Tables.{terms_in}
+use Rattle.typespecs_terms.specs.Tables.{terms_in}
 use Rattle.typespecs.proofs.ParameterTables.{new-parameter, known-parameter, copied-there}
 use Rattle.typespecs.proofs.definitions.add_parameter.Goals as goal
 

@@ -1,4 +1,4 @@
-use Rattle.type_rules.specs.SpecTerms.{record_definition}
+use Rattle.typespecs_rules.specs.SpecTerms.{record_definition}
 use Rattle.typespecs.specs.Reads.{ReadsDeclared}
 use Rattle.typespecs.proofs.Declared.{records_of, item-added, record-given, no-record-added}
 use Rattle.typespecs.proofs.definitions.add_record.Goals as goal

@@ -1,4 +1,4 @@
-use Rattle.type_rules.specs.Declarations.{Declarations}
+use Rattle.typespecs_rules.specs.Declarations.{Declarations}
 use Rattle.typespecs.specs.Reads.{ReadsDeclared}
 use Rattle.typespecs.proofs.Declared.{types_of, types_append}
 use Rattle.typespecs.proofs.Present.{AddedTo}

@@ -1,4 +1,4 @@
-use Rattle.type_rules.specs.Declarations.{declarations_of}
+use Rattle.typespecs_rules.specs.Declarations.{declarations_of}
 use Rattle.typespecs.proofs.Declared.{no-types-answer, no-records-answer, definitions-answer}
 use Rattle.typespecs.proofs.definitions.definitions.Goals as goal
 

@@ -1,5 +1,5 @@
 use Rattle.std.proofs.Common.{◌∙◌, ap}
-use Rattle.type_rules.specs.Declarations.{types_in}
+use Rattle.typespecs_rules.specs.Declarations.{types_in}
 use Rattle.typespecs.specs.Names.{names_among}
 use Rattle.typespecs.proofs.FormLists.{names_of_kinds, if_ok_is}
 use Rattle.typespecs.proofs.names.type_names.Goals as goal

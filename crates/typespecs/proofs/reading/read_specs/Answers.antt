@@ -2,8 +2,8 @@ use Rattle.std.proofs.Common.{subst, Option}
 use Rattle.std.specs.Prelude.{MatchOption}
 use Rattle.erl_tree.specs.declared.token.Place.{Place}
 use Rattle.erl_tree.specs.Lists.{Every}
-use Rattle.type_rules.specs.declared.fault.TypeFault.TheVariants.{NegatedFun}
-use Rattle.type_rules.specs.TypeFaults.{of_specs, IsWellSignedArrow, IsNotSigned, arrows_of, fault_at}
+use Rattle.typespecs_rules.specs.declared.fault.TypeFault.TheVariants.{NegatedFun}
+use Rattle.typespecs_rules.specs.TypeFaults.{of_specs, IsWellSignedArrow, IsNotSigned, arrows_of, fault_at}
 use Rattle.typespecs.specs.TextFaults.{IsFirstOfText}
 use Rattle.typespecs.proofs.reading.read_specs.Goals as goal
 

@@ -1,7 +1,7 @@
 use Rattle.std.proofs.Common.{◌≡◌, ◌∙◌, ◌+◌, ◌++◌, [], ◌∷◌, ap, sym, subst, length, take}
 use Rattle.std.proofs.lemmas.List.{take_more}
 use Rattle.erl_runs.specs.Records.{records_in}
-use Rattle.type_rules.specs.SpecTerms.{records_from}
+use Rattle.typespecs_rules.specs.SpecTerms.{records_from}
 use Rattle.typespecs.proofs.FormLists.{records_next}
 use Rattle.typespecs.proofs.records.records_among.Goals as goal
 

@@ -1,6 +1,6 @@
 use Rattle.std.proofs.Common.{◌≡◌, ◌+◌, length, take}
 use Rattle.erl_runs.specs.Records.{records_in}
-use Rattle.type_rules.specs.SpecTerms.{records_from}
+use Rattle.typespecs_rules.specs.SpecTerms.{records_from}
 use Rattle.typespecs.proofs.records.records_among.Given as goal
 
 abbrev pub invariant-loop-form : goal.invariant-loop-form

@@ -1,6 +1,6 @@
 use Rattle.std.proofs.Common.{◌≡◌, take}
 use Rattle.type_terms.specs.declared.spec.FunSpec.{FunSpec}
-use Rattle.type_rules.specs.TypeParts.{from_each}
+use Rattle.typespecs_rules.specs.TypeParts.{from_each}
 use Rattle.typespecs.specs.Names.{arrows_seen}
 use Rattle.typespecs.proofs.signs.arrows_in.Given as goal
 

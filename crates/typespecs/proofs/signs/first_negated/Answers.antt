@@ -1,6 +1,6 @@
 use Rattle.std.proofs.Common.{◌∙◌, ap}
 use Rattle.type_terms.specs.declared.spec.FunSpec.{FunSpec}
-use Rattle.type_rules.specs.TypeParts.{from_each}
+use Rattle.typespecs_rules.specs.TypeParts.{from_each}
 use Rattle.typespecs.specs.Names.{arrows_seen, clause_places_among}
 use Rattle.typespecs.proofs.Arrows.{negated_answer}
 use Rattle.typespecs.proofs.signs.first_negated.Goals as goal

@@ -1,5 +1,5 @@
 use Rattle.std.proofs.Common.{refl}
-use Rattle.type_rules.specs.TypeFaults.{IsWellSignedArrow}
+use Rattle.typespecs_rules.specs.TypeFaults.{IsWellSignedArrow}
 use Rattle.typespecs.specs.Names.{arrows_seen}
 use Rattle.typespecs.proofs.Inversion.{false-true}
 use Rattle.typespecs.proofs.Arrows.{seen_is, every_next}

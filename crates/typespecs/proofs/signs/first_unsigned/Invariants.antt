@@ -1,6 +1,6 @@
 use Rattle.std.proofs.Common.{take}
 use Rattle.erl_tree.specs.Lists.{Every}
-use Rattle.type_rules.specs.TypeFaults.{IsWellSignedArrow}
+use Rattle.typespecs_rules.specs.TypeFaults.{IsWellSignedArrow}
 use Rattle.typespecs.specs.Names.{arrows_seen}
 use Rattle.typespecs.proofs.signs.first_unsigned.Given as goal
 

@@ -1,0 +1,5 @@
+pub mod Places
+pub mod Keys
+pub mod Steps
+pub mod OfModules
+pub mod StandingNumbers

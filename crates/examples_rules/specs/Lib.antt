@@ -1,0 +1,4 @@
+pub mod SmallFaults
+pub mod SmallFunctions
+pub mod SmallScopes
+pub mod SmallTables

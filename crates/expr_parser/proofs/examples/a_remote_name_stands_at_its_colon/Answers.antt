@@ -1,5 +1,0 @@
-use Rattle.expr_parser.proofs.TextExamples.{name_stands}
-use Rattle.expr_parser.proofs.examples.a_remote_name_stands_at_its_colon.Goals as goal
-
-pub returns : goal.returns
-returns c = record { colon = name_stands }

@@ -1,5 +1,0 @@
-use Rattle.form_parser.proofs.WholeModules.{one_module}
-use Rattle.form_parser.proofs.laws.one_tree.Goals as goal
-
-pub returns : goal.returns
-returns c = record { modules = one_module }

@@ -1,8 +1,0 @@
-use Rattle.function_table.specs.Table.{ids}
-use Rattle.scope_rules.specs.ScopeFaults.{specified_by, specified_in}
-use Rattle.name_checks.proofs.TableLaws.{IsGathered}
-use Rattle.std.proofs.Common.{refl}
-use Rattle.name_checks.proofs.tables.specified_functions.Given as goal
-
-abbrev pub invariant-loop-form : goal.invariant-loop-form
-invariant-loop-form l = IsGathered specified_by specified_in refl (λ form forms. refl) l.forms l.form-index (ids l.table)

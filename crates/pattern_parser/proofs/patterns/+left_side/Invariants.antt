@@ -1,4 +1,0 @@
-use Rattle.pattern_parser.proofs.patterns.+left_side.Given as goal
-
-abbrev pub decreases-left_side : goal.decreases-left_side
-decreases-left_side l = l.limit

@@ -1,6 +1,0 @@
-use Rattle.std.proofs.Common.{◌≡◌, ℕ, get_or, take, false, true}
-use Rattle.std.specs.List.{Contains}
-use Rattle.record_tuples.proofs.settling.are_marked.Given as goal
-
-abbrev pub invariant-numbers : goal.invariant-numbers
-invariant-numbers l = (j : ℕ) → Contains (take l.number-index l.numbers) j → get_or l.marks j false ≡ true

@@ -1,5 +1,0 @@
-use Rattle.run_examples.proofs.PartsOfValuesRuns.{parts_of_values-run}
-use Rattle.run_examples.proofs.examples.parts_of_values.Goals as goal
-
-pub returns : goal.returns
-returns c = parts_of_values-run

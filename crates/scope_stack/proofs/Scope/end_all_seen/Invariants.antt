@@ -1,7 +1,0 @@
-use Rattle.std.proofs.Common.{◌≡◌, ◌++◌}
-use Rattle.scope_rules.specs.Occurrences.{names_of}
-use Rattle.scope_stack.specs.Between.{between}
-use Rattle.scope_stack.proofs.Scope.end_all_seen.Given as goal
-
-abbrev pub invariant-loop-at : goal.invariant-loop-at
-invariant-loop-at l = l.self ≡ record { sees = l.initial.self.sees; ended = names_of (between l.seen l.at l.initial.self.sees) ++ l.initial.self.ended; aside = l.initial.self.aside }

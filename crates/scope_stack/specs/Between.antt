@@ -1,7 +1,0 @@
--- Parts of a list that has the latest first.
-use Rattle.std.specs.Prelude.{ℕ, List}
-use Rattle.scope_stack.specs.State.{above, below}
-
--- what is among the first `high`, and above the first `low`
-unfoldable pub between : {A : Type 0} → (low high : ℕ) → List A → List A
-between low high xs = above low (below high xs)

@@ -1,6 +1,0 @@
-use Rattle.std.proofs.Common.{◌≡◌, length, take}
-use Rattle.std.specs.List.{zip}
-use Rattle.single_types.proofs.tuples.fields_with.Given as goal
-
-abbrev pub invariant-loop-name : goal.invariant-loop-name
-invariant-loop-name l = l.fields ≡ zip (take (length l.yielded) l.names) (take (length l.yielded) l.terms)

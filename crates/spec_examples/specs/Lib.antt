@@ -1,2 +1,0 @@
-pub mod SmallFaults
-pub mod SmallFunctions

@@ -1,8 +1,0 @@
-//! Small modules and types that stand alone, and what the rules of types and specs, of readable modules, of flat specs and names and
-//! of instances say of them: where a definition holds and where it doesn't.
-#![tactic(auto)]
-
-pub mod faults;
-pub mod instances;
-pub mod readable;
-pub mod single_types;

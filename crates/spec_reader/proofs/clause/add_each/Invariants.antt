@@ -1,7 +1,0 @@
-use Rattle.std.proofs.Common.{◌≡◌, ◌++◌, take}
-use Rattle.type_rules.specs.TypeParts.{from_each, types_within}
-use Rattle.type_tables.specs.Seen.{seen}
-use Rattle.spec_reader.proofs.clause.add_each.Given as goal
-
-abbrev pub invariant-types : goal.invariant-types
-invariant-types l = seen l.list.items ≡ seen l.initial.list.items ++ from_each types_within (take l.t-index l.types)

@@ -1,6 +1,0 @@
-use Rattle.type_rules.specs.Declarations.{Declarations}
-use Rattle.spec_reader.specs.Clause.{Knows, StandsSoFar, own_terms}
-use Rattle.spec_reader.proofs.standing.standing_terms.Given as goal
-
-abbrev pub invariant-rounds : goal.invariant-rounds
-invariant-rounds l = (d : Declarations) → Knows l.source d → StandsSoFar d l.source.clause.now (own_terms l.own.first l.own.places) l.standing

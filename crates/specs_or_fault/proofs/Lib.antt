@@ -1,4 +1,0 @@
-mod EarliestFault
-mod LeastDefinition
-mod FirstArrow
-mod SpecsOrFault

@@ -1,5 +1,0 @@
-use Rattle.type_checks.proofs.DefaultLaws.{AreDefaultsTo}
-use Rattle.type_checks.proofs.defaults.+defaults.Given as goal
-
-abbrev pub invariant-are_defaults-loop-expr : goal.invariant-are_defaults-loop-expr
-invariant-are_defaults-loop-expr l = AreDefaultsTo l.exprs l.expr-index

@@ -1,6 +1,0 @@
-use Rattle.std.proofs.Common.{drop}
-use Rattle.type_checks.proofs.NameSetLaws.{IsNamedTo, names_of}
-use Rattle.type_checks.proofs.name_set.NameSet.of_fields.Given as goal
-
-abbrev pub invariant-loop-field : goal.invariant-loop-field
-invariant-loop-field l = IsNamedTo (names_of l.declaration.fields) (names_of (drop l.field-index l.field-items)) l.set.keys

@@ -1,5 +1,0 @@
-use Rattle.type_checks.proofs.SpecLaws.{IsRepeatedTo}
-use Rattle.type_checks.proofs.specs.has_two_bounds.Given as goal
-
-abbrev pub invariant-loop-bound : goal.invariant-loop-bound
-invariant-loop-bound l = IsRepeatedTo l.bounds l.bound-index l.before.keys

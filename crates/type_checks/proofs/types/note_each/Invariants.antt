@@ -1,9 +1,0 @@
-use Rattle.type_rules.specs.Declarations.{Declarations}
-use Rattle.type_rules.specs.TypeFaults.{own_faults}
-use Rattle.type_checks.specs.NameSets.{has_name}
-use Rattle.type_checks.specs.Noted.{KnowsDeclared}
-use Rattle.type_checks.proofs.Rows.{IsNotedTo}
-use Rattle.type_checks.proofs.types.note_each.Given as goal
-
-abbrev pub invariant-loop-one : goal.invariant-loop-one
-invariant-loop-one l = (d : Declarations) → KnowsDeclared l.scope d → IsNotedTo (λ b. own_faults d (has_name l.allowed) b.now) l.types l.initial.first l.one-index l.first

@@ -1,8 +1,0 @@
-use Rattle.std.proofs.Common.{map}
-use Rattle.type_graphs.specs.DeclarationParts.{inner_of}
-use Rattle.type_graphs.proofs.Gathering.{IsGathered}
-use Rattle.type_graphs.proofs.FormLaws.{type_inside}
-use Rattle.type_graphs.proofs.parts.add_types.Given as goal
-
-abbrev pub invariant-loop-form : goal.invariant-loop-form
-invariant-loop-form l = IsGathered type_inside l.forms (map inner_of l.initial.list.items) l.form-index (map inner_of l.list.items)

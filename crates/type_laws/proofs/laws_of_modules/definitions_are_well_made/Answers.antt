@@ -1,5 +1,0 @@
-use Rattle.type_laws.proofs.WellMade.{well-made}
-use Rattle.type_laws.proofs.laws_of_modules.definitions_are_well_made.Goals as goal
-
-pub returns : goal.returns
-returns c = well-made

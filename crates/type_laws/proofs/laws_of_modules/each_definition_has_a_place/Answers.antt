@@ -1,5 +1,0 @@
-use Rattle.type_laws.proofs.EachHasAPlace.{definition-places}
-use Rattle.type_laws.proofs.laws_of_modules.each_definition_has_a_place.Goals as goal
-
-pub returns : goal.returns
-returns c = definition-places

@@ -1,5 +1,0 @@
-use Rattle.type_laws.proofs.GivenReach.{given-reach-nothing}
-use Rattle.type_laws.proofs.laws_of_modules.given_definitions_reach_nothing.Goals as goal
-
-pub returns : goal.returns
-returns c = given-reach-nothing

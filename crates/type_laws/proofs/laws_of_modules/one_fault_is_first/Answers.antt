@@ -1,5 +1,0 @@
-use Rattle.type_laws.proofs.FirstFault.{one-first}
-use Rattle.type_laws.proofs.laws_of_modules.one_fault_is_first.Goals as goal
-
-pub returns : goal.returns
-returns c = one-first

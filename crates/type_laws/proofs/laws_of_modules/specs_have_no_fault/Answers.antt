@@ -1,5 +1,0 @@
-use Rattle.type_laws.proofs.FirstFault.{no-first}
-use Rattle.type_laws.proofs.laws_of_modules.specs_have_no_fault.Goals as goal
-
-pub returns : goal.returns
-returns c = no-first

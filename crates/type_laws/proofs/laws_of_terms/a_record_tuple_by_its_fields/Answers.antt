@@ -1,5 +1,0 @@
-use Rattle.type_laws.proofs.RecordTuples.{by-fields}
-use Rattle.type_laws.proofs.laws_of_terms.a_record_tuple_by_its_fields.Goals as goal
-
-pub returns : goal.returns
-returns c = by-fields

@@ -1,5 +1,0 @@
-use Rattle.type_laws.proofs.ModuleTerms.{specs-there}
-use Rattle.type_laws.proofs.laws_of_terms.no_fault_has_terms.Goals as goal
-
-pub returns : goal.returns
-returns c = specs-there

@@ -1,6 +1,0 @@
-use Rattle.std.proofs.Common.{◌∙◌}
-use Rattle.type_reader.proofs.NamedTerms.{found}
-use Rattle.type_reader.proofs.tables.TupleTable.get.Goals as goal
-
-pub returns : goal.returns
-returns c = c.get.ensures.value ∙ found c.as_slice.result.now c.args.name.now c.args.self.now.tuples.entries c.as_slice.ensures

@@ -1,6 +1,0 @@
-use Rattle.type_tables.specs.Numbers.{record_ids}
-use Rattle.type_tables.proofs.Counted.{IsAddedTo}
-use Rattle.type_tables.proofs.numbers.numbers_of_records.Given as goal
-
-abbrev pub invariant-loop-form : goal.invariant-loop-form
-invariant-loop-form l = IsAddedTo record_ids l.forms l.initial.table l.initial.number l.form-index l.number l.table

@@ -1,6 +1,0 @@
-use Rattle.std.proofs.Common.{subst, rules}
-use Rattle.type_terms.specs.Refusals.{AreWellMade}
-use Rattle.type_terms.proofs.tests.added.Goals as goal
-
-pub add-requires : goal.add-requires
-add-requires c = subst AreWellMade c.as_slice.ensures (c.if-not-are_simple.ensures (search rules))

@@ -1,0 +1,11 @@
+use Rattle.typespecs_faults.proofs.EarliestLaws.{earliest-stands, earliest-first, earliest-none}
+use Rattle.typespecs_faults.proofs.laws.the_first_fault.Goals as goal
+
+pub returns-clause-stands : goal.returns-clause-stands
+returns-clause-stands c = earliest-stands
+
+pub returns-clause-first : goal.returns-clause-first
+returns-clause-first c = earliest-first
+
+pub returns-clause-none : goal.returns-clause-none
+returns-clause-none c = earliest-none

@@ -1,0 +1,16 @@
+pub mod Mentions
+pub mod RegularSpecs
+pub mod ReplacedNames
+pub mod Gathered
+pub mod FewChains
+pub mod ArrowNames
+pub mod OfModules
+pub mod ListInstances
+pub mod GrowingInstances
+pub mod EarliestFault
+pub mod LeastDefinition
+pub mod FirstArrow
+pub mod SpecsOrFault
+pub mod SharedNames
+pub mod MadeTerms
+pub mod MadeArrows

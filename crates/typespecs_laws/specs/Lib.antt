@@ -1,0 +1,3 @@
+pub mod Occurring
+pub mod SmallInstances
+pub mod WellMade

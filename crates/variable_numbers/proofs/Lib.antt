@@ -1,6 +1,0 @@
-pub mod Places
-pub mod Keys
-pub mod Steps
-pub mod OfModules
-pub mod StandingNumbers
-mod TableExamples

@@ -1,5 +1,0 @@
-use Rattle.variable_numbers.proofs.StandingNumbers.{no_number-where_none_stands}
-use Rattle.variable_numbers.proofs.laws.a_number_exactly_where_a_variable_stands.Goals as goal
-
-pub returns : goal.returns
-returns c = no_number-where_none_stands

@@ -1,5 +1,0 @@
-use Rattle.variable_numbers.proofs.OfModules.{place_in_resolved-binding_place}
-use Rattle.variable_numbers.proofs.laws.places_are_those_of_the_module.Goals as goal
-
-pub returns : goal.returns
-returns c = place_in_resolved-binding_place

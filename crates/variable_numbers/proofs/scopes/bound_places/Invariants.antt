@@ -1,6 +1,0 @@
-use Rattle.std.proofs.Common.{◌≡◌, take}
-use Rattle.variable_numbers.specs.Numbers.{bound_places}
-use Rattle.variable_numbers.proofs.scopes.bound_places.Given as goal
-
-abbrev pub invariant-variables : goal.invariant-variables
-invariant-variables l = l.places.items ≡ bound_places (take l.variable-index l.found)

@@ -1,6 +1,0 @@
-use Rattle.std.proofs.Common.{take}
-use Rattle.variable_numbers.proofs.Steps.{AreNumbersOf}
-use Rattle.variable_numbers.proofs.scopes.numbers_of_places.Given as goal
-
-abbrev pub invariant-places : goal.invariant-places
-invariant-places l = AreNumbersOf (take l.index l.places) l.numbers

@@ -1,6 +1,0 @@
-use Rattle.variable_scopes.specs.Walks.{after_default}
-use Rattle.variable_scopes.proofs.WalkLaws.{IsLeft}
-use Rattle.variable_scopes.proofs.modules.visit_defaults.Given as goal
-
-abbrev pub invariant-loop-field : goal.invariant-loop-field
-invariant-loop-field l = IsLeft after_default l.fields l.field-index l.walk l.initial.walk

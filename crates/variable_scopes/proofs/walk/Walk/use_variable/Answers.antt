@@ -1,5 +1,0 @@
-use Rattle.variable_scopes.proofs.ScopeSteps.{on_ok, uses}
-use Rattle.variable_scopes.proofs.walk.Walk.use_variable.Goals as goal
-
-pub returns : goal.returns
-returns c = on_ok (uses c.args.name.now c.args.place c.args.self.now c.resolve.new.self) c.resolve.result c.resolve.ensures

@@ -1,3 +1,0 @@
-pub mod SharedNames
-pub mod MadeTerms
-pub mod MadeArrows
