@@ -1,7 +1,7 @@
 //! What is in scope at a place of a text, with look-ups by name.
 #![tactic(auto)]
 
-ghost use Rattle.std.specs.Prelude.{◌≡◌, ◌≤◌, length, IfOk, OnOk};
+ghost use Rattle.std.specs.Prelude.{◌≡◌, ◌≤◌, length, OnOk};
 ghost use Rattle.std.specs.Option.{option_map};
 ghost use Rattle.erl_scope_rules.specs.Bindings.{innermost};
 ghost use Rattle.erl_scope_rules.specs.Occurrences.{is_named_among};
@@ -87,45 +87,33 @@ impl Scope {
     }
 
     /// Where the innermost binding of a name stands, among the variables that are seen.
-    ///
-    /// # Errors
-    ///
-    /// `NoMemory` where memory runs out.
-    pub fn binding(&self, _alloc: Global, name: &Text) -> Result<Option<Place>, NoMemory>
-        ensures { IfOk result (λ place. place ≡ option_map (λ m. m.place) (innermost name.now self.now.sees)) }
+    pub fn binding(&self, name: &Text) -> Option<Place>
+        ensures { result ≡ option_map (λ m. m.place) (innermost name.now self.now.sees) }
     {
         match self.names.number(name) {
-            None => Ok(None),
-            Some(number) => Ok(binding_at(self.seen.as_slice(), self.states[number].top)),
+            None => None,
+            Some(number) => binding_at(self.seen.as_slice(), self.states[number].top),
         }
     }
 
     /// Whether a name is among those that ended.
-    ///
-    /// # Errors
-    ///
-    /// `NoMemory` where memory runs out.
-    pub fn has_ended(&self, _alloc: Global, name: &Text) -> Result<bool, NoMemory>
-        ensures { IfOk result (λ answer. answer ≡ stands_among name.now self.now.ended) }
+    pub fn has_ended(&self, name: &Text) -> bool
+        ensures { result ≡ stands_among name.now self.now.ended }
     {
         match self.names.number(name) {
-            None => Ok(false),
-            Some(number) => Ok(self.states[number].ended > 0),
+            None => false,
+            Some(number) => self.states[number].ended > 0,
         }
     }
 
     /// Whether a name stands among the variables seen that lie above the first so many.
-    ///
-    /// # Errors
-    ///
-    /// `NoMemory` where memory runs out.
-    pub fn stands_above(&self, _alloc: Global, name: &Text, seen: usize) -> Result<bool, NoMemory>
+    pub fn stands_above(&self, name: &Text, seen: usize) -> bool
         requires { seen ≤ length self.now.sees }
-        ensures { IfOk result (λ answer. answer ≡ is_named_among name.now (above seen self.now.sees)) }
+        ensures { result ≡ is_named_among name.now (above seen self.now.sees) }
     {
         match self.names.number(name) {
-            None => Ok(false),
-            Some(number) => Ok(reaches(self.states[number].top, seen)),
+            None => false,
+            Some(number) => reaches(self.states[number].top, seen),
         }
     }
 
@@ -164,7 +152,7 @@ impl Scope {
     /// # Errors
     ///
     /// `NoMemory` where memory runs out.
-    pub fn end_body(&mut self, _alloc: Global, seen: usize) -> Result<(), NoMemory>
+    pub fn end_body(&mut self, seen: usize) -> Result<(), NoMemory>
         requires { seen ≤ length self.old.sees }
         ensures { OnOk result (self.new ≡ with_body_ended seen self.old) }
     {
@@ -179,7 +167,7 @@ impl Scope {
     /// # Errors
     ///
     /// `NoMemory` where memory runs out.
-    pub fn set_aside(&mut self, _alloc: Global, seen: usize, ended: usize) -> Result<(), NoMemory>
+    pub fn set_aside(&mut self, seen: usize, ended: usize) -> Result<(), NoMemory>
         requires seen { seen ≤ length self.old.sees }
         requires ended { ended ≤ length self.old.ended }
         ensures { OnOk result (self.new ≡ with_part_aside seen ended self.old) }
@@ -197,7 +185,7 @@ impl Scope {
     /// # Errors
     ///
     /// `NoMemory` where memory runs out.
-    pub fn end_parts(&mut self, _alloc: Global, aside: usize) -> Result<(), NoMemory>
+    pub fn end_parts(&mut self, aside: usize) -> Result<(), NoMemory>
         requires { aside ≤ length self.old.aside }
         ensures { OnOk result (self.new ≡ with_parts_ended aside self.old) }
     {
@@ -212,7 +200,7 @@ impl Scope {
     /// # Errors
     ///
     /// `NoMemory` where memory runs out.
-    pub fn end_head(&mut self, _alloc: Global, seen: usize, ended: usize) -> Result<(), NoMemory>
+    pub fn end_head(&mut self, seen: usize, ended: usize) -> Result<(), NoMemory>
         requires seen { seen ≤ length self.old.sees }
         requires ended { ended ≤ length self.old.ended }
         ensures { OnOk result (self.new ≡ with_head_ended seen ended self.old) }

@@ -47,7 +47,7 @@ pub(crate) fn visit(
     ensures { OnOk result (walk.new ≡ walks.after_part (expr_kind_part kind.now place) walk.old) }
 {
     match kind {
-        ExprKind::Var(name) => walk.use_variable(alloc, name, place),
+        ExprKind::Var(name) => walk.use_variable(name, place),
         ExprKind::Paren(inner) => visit(alloc, walk, inner.kind.get(), inner.place),
         ExprKind::Tuple(parts) => visit_all(alloc, walk, parts.as_slice()),
         ExprKind::Cells(parts, tail) => {
@@ -96,16 +96,16 @@ fn visit_construct(
     match kind {
         ExprKind::Begin(items) => {
             visit_items(alloc, walk, items.as_slice())?;
-            walk.end_body(alloc, start)
+            walk.end_body(start)
         }
         ExprKind::Case(subject, clauses) => {
             visit(alloc, walk, subject.kind.get(), subject.place)?;
             visit_clauses(alloc, walk, Role::Met, clauses.as_slice())?;
-            walk.end_parts(alloc, start)
+            walk.end_parts(start)
         }
         ExprKind::If(clauses) => {
             visit_clauses(alloc, walk, Role::Met, clauses.as_slice())?;
-            walk.end_parts(alloc, start)
+            walk.end_parts(start)
         }
         ExprKind::Fun(clauses) => {
             visit_clauses(alloc, walk, Role::Renewed, clauses.as_slice())?;
@@ -126,7 +126,7 @@ fn visit_long_construct(alloc: Global, walk: &mut Walk, kind: &ExprKind) -> Resu
         ExprKind::Comp(head, qualifiers) => {
             see_generators(alloc, walk, qualifiers.as_slice())?;
             visit(alloc, walk, head.kind.get(), head.place)?;
-            walk.end_head(alloc, start)?;
+            walk.end_head(start)?;
             visit_qualifiers(alloc, walk, qualifiers.as_slice())?;
             walk.forget(start);
             Ok(())
@@ -138,14 +138,14 @@ fn visit_long_construct(alloc: Global, walk: &mut Walk, kind: &ExprKind) -> Resu
             after,
         } => {
             visit_items(alloc, walk, body.as_slice())?;
-            walk.end_body(alloc, start)?;
+            walk.end_body(start)?;
             visit_clauses(alloc, walk, Role::Met, of_clauses.as_slice())?;
             visit_catches(alloc, walk, catches.as_slice())?;
             match after {
-                None => walk.end_parts(alloc, start),
+                None => walk.end_parts(start),
                 Some(items) => {
                     visit_after(alloc, walk, items.as_slice())?;
-                    walk.end_parts(alloc, start)
+                    walk.end_parts(start)
                 }
             }
         }
@@ -284,7 +284,7 @@ fn visit_clause(
     read_head(alloc, walk, role, class, kind.patterns.as_slice())?;
     visit_guard(alloc, walk, kind)?;
     visit_items(alloc, walk, kind.body.as_slice())?;
-    walk.set_aside(alloc, start)
+    walk.set_aside(start)
 }
 
 /// The guard of a clause, where it has one.
@@ -315,5 +315,5 @@ fn visit_after(alloc: Global, walk: &mut Walk, items: &[Item]) -> Result<(), NoM
 {
     let start = walk.start();
     visit_items(alloc, walk, items)?;
-    walk.set_aside(alloc, start)
+    walk.set_aside(start)
 }

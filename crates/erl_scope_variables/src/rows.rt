@@ -1,6 +1,6 @@
 //! Rows of patterns.
 
-ghost use Rattle.std.specs.Prelude.{◌≡◌, [], ◌∷◌, ◌++◌, codes, IfOk, OnOk};
+ghost use Rattle.std.specs.Prelude.{◌≡◌, [], ◌∷◌, ◌++◌, codes, OnOk};
 ghost use Rattle.erl_runs.specs.Names.{is_wildcard as is_wildcard_name};
 ghost use Rattle.erl_scope_rules.specs.Occurrences.{role_behind, is_named_among, pattern_kind_variables, row, row_marks, class_patterns};
 ghost use Rattle.erl_scope_stack.specs.State.{above};
@@ -28,18 +28,18 @@ fn is_wildcard(name: &Text) -> bool
 }
 
 /// The role of a variable of a row: one that binds anew meets the variables of the row before it.
-fn role_in(alloc: Global, walk: &Walk, name: &Text, row: Row) -> Result<Role, NoMemory>
-    ensures { IfOk result (λ role. role ≡ role_behind row.role (is_named_among name.now (above row.start walk.now.scope.sees))) }
+fn role_in(walk: &Walk, name: &Text, row: Row) -> Role
+    ensures { result ≡ role_behind row.role (is_named_among name.now (above row.start walk.now.scope.sees)) }
 {
     match row.role {
         Role::Renewed => {
-            if walk.stands_since(alloc, name, row.start)? {
-                Ok(Role::Met)
+            if walk.stands_since(name, row.start) {
+                Role::Met
             } else {
-                Ok(Role::Renewed)
+                Role::Renewed
             }
         }
-        role => Ok(role),
+        role => role,
     }
 }
 
@@ -47,9 +47,9 @@ fn role_in(alloc: Global, walk: &Walk, name: &Text, row: Row) -> Result<Role, No
 fn meet(alloc: Global, walk: &mut Walk, name: &Text, place: Place, row: Row) -> Result<(), NoMemory>
     ensures { OnOk result (walk.new ≡ walks.after_variable row (name.now, place) walk.old) }
 {
-    let role = role_in(alloc, walk, name, row)?;
+    let role = role_in(walk, name, row);
     if row.records {
-        walk.resolve(alloc, name, place, role)?;
+        walk.resolve(name, place, role)?;
     }
     walk.scope.see(alloc, name, place, role)
 }

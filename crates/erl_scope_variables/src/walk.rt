@@ -1,6 +1,6 @@
 //! What is in scope at a place of a text, and what was found of the variables up to there.
 
-ghost use Rattle.std.specs.Prelude.{◌≡◌, ◌≤◌, [], ◌∷◌, ◌++◌, length, min, IfOk, OnOk};
+ghost use Rattle.std.specs.Prelude.{◌≡◌, ◌≤◌, [], ◌∷◌, ◌++◌, length, min, OnOk};
 ghost use Rattle.erl_scope_rules.specs.Bindings.{innermost};
 ghost use Rattle.erl_scope_rules.specs.Occurrences.{use_at, is_named_among};
 ghost use Rattle.erl_scope_rules.specs.ScopeFaults.{stands_among};
@@ -147,35 +147,35 @@ impl Walk {
     }
 
     /// The head of a comprehension ended, which saw the variables since then.
-    pub fn end_head(&mut self, alloc: Global, start: Start) -> Result<(), NoMemory>
+    pub fn end_head(&mut self, start: Start) -> Result<(), NoMemory>
         ensures { OnOk result (self.new ≡ walks.head_ended_since start self.old) }
     {
         let start = self.within(start);
-        self.scope.end_head(alloc, start.seen, start.ended)
+        self.scope.end_head(start.seen, start.ended)
     }
 
     /// A body ended that began there.
-    pub fn end_body(&mut self, alloc: Global, start: Start) -> Result<(), NoMemory>
+    pub fn end_body(&mut self, start: Start) -> Result<(), NoMemory>
         ensures { OnOk result (self.new ≡ walks.body_ended_since start self.old) }
     {
         let start = self.within(start);
-        self.scope.end_body(alloc, start.seen)
+        self.scope.end_body(start.seen)
     }
 
     /// One of several parts side by side ended that began there.
-    pub fn set_aside(&mut self, alloc: Global, start: Start) -> Result<(), NoMemory>
+    pub fn set_aside(&mut self, start: Start) -> Result<(), NoMemory>
         ensures { OnOk result (self.new ≡ walks.part_aside_since start self.old) }
     {
         let start = self.within(start);
-        self.scope.set_aside(alloc, start.seen, start.ended)
+        self.scope.set_aside(start.seen, start.ended)
     }
 
     /// All of several parts side by side ended, of which the first began there.
-    pub fn end_parts(&mut self, alloc: Global, start: Start) -> Result<(), NoMemory>
+    pub fn end_parts(&mut self, start: Start) -> Result<(), NoMemory>
         ensures { OnOk result (self.new ≡ walks.parts_ended_since start self.old) }
     {
         let start = self.within(start);
-        self.scope.end_parts(alloc, start.aside)
+        self.scope.end_parts(start.aside)
     }
 
     /// What came into scope since then is forgotten.
@@ -187,33 +187,27 @@ impl Walk {
     }
 
     /// Whether a name stands among the variables seen that lie above the first so many.
-    pub fn stands_since(&self, alloc: Global, name: &Text, seen: usize) -> Result<bool, NoMemory>
-        ensures { IfOk result (λ answer. answer ≡ is_named_among name.now (above seen self.now.scope.sees)) }
+    pub fn stands_since(&self, name: &Text, seen: usize) -> bool
+        ensures { result ≡ is_named_among name.now (above seen self.now.scope.sees) }
     {
         self.scope
-            .stands_above(alloc, name, lesser(seen, self.scope.seen()))
+            .stands_above(name, lesser(seen, self.scope.seen()))
     }
 
     /// Notes what becomes of a variable that stands here in this role.
-    pub fn resolve(
-        &mut self,
-        alloc: Global,
-        name: &Text,
-        place: Place,
-        role: Role,
-    ) -> Result<(), NoMemory>
+    pub fn resolve(&mut self, name: &Text, place: Place, role: Role) -> Result<(), NoMemory>
         ensures { OnOk result (self.new ≡ record { scope = self.old.scope; found = self.old.found ++ resolved_as (record { name = name.now; place = place; role = role }) (innermost name.now self.old.scope.sees) (stands_among name.now self.old.scope.ended) ∷ [] }) }
     {
-        let outer = self.scope.binding(alloc, name)?;
-        let has_ended = self.scope.has_ended(alloc, name)?;
+        let outer = self.scope.binding(name);
+        let has_ended = self.scope.has_ended(name);
         self.found.push(resolved(role, place, outer, has_ended))?;
         Ok(())
     }
 
     /// A use of a variable.
-    pub fn use_variable(&mut self, alloc: Global, name: &Text, place: Place) -> Result<(), NoMemory>
+    pub fn use_variable(&mut self, name: &Text, place: Place) -> Result<(), NoMemory>
         ensures { OnOk result (self.new ≡ walks.after_part (use_at name.now place) self.old) }
     {
-        self.resolve(alloc, name, place, Role::Used)
+        self.resolve(name, place, Role::Used)
     }
 }
