@@ -4,7 +4,7 @@ use Rattle.erl_tree.specs.Functions.{FunctionId, of_function}
 use Rattle.name_table.specs.declared.NameKey.{NameKey}
 use Rattle.name_table.specs.Table.{Entry}
 
--- the function that a key names
+-- the name and the arity of a key
 abbrev pub key_id : NameKey → FunctionId
 key_id k = of_function k.name.items k.arity
 

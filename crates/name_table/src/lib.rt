@@ -1,4 +1,4 @@
-//! A table from the names and arities of functions to numbers.
+//! A table from names and arities to numbers: functions, types and, with arity 0, records are looked up in it.
 #![tactic(auto)]
 
 ghost use Rattle.std.specs.Prelude.{◌≡◌, [], IfOk, OnErr, OnOk};
@@ -19,8 +19,8 @@ struct NameKey {
     arity: usize,
 }
 
-/// A table from the names and arities of functions to numbers, in the order in which they were
-/// inserted. Contracts see it as the list of its entries.
+/// A table from names and arities to numbers, in the order in which they were inserted. Contracts see it
+/// as the list of its entries.
 #[derive(Drop)]
 pub struct NameTable {
     numbers: IndexMap<NameKey, usize>,
@@ -58,8 +58,8 @@ impl NameTable {
         }
     }
 
-    /// Adds a function with a number at the end, unless it is there already. Gives whether it was
-    /// added.
+    /// Adds a name and an arity with a number at the end, unless they are there already. Gives whether
+    /// they were added.
     ///
     /// # Errors
     ///
@@ -83,7 +83,7 @@ impl NameTable {
         Ok(true)
     }
 
-    /// The number of a function, if it is in the table.
+    /// The number of a name and an arity, if they are in the table.
     ///
     /// # Errors
     ///
