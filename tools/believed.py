@@ -2,6 +2,7 @@
 """Counts the definitions that have to be believed for a claim.
 
     tools/believed.py [--files] [FILE ..]
+    tools/believed.py --guide
 
 From FILE, a file of a crate's specs/, or one of its src/ whose contracts cite definitions, it follows the lines
 `use Rattle.CRATE.specs.NAME` to the definitions that FILE stands on, to those that these stand on, and so on. It
@@ -13,6 +14,8 @@ declare such types are told apart, and only their number: what is believed of th
 and nothing of the functions beside them. What the toolchain's own library defines isn't counted.
 
 Without FILE it answers for the two claims that the documents speak of: that of a safe text, and that of `run_tool`.
+With --guide it writes the columns "Lines" and "Stands on" of the tables of docs/GUIDE.md anew, and names each file
+that `run_tool` stands on and no table has, and each that a table has and `run_tool` doesn't stand on.
 """
 import os
 import re
@@ -25,6 +28,7 @@ CLAIMS = [
 ]
 USE = re.compile(r"^\s*(?:pub )?(?:ghost )?use Rattle\.(\w+)\.specs\.([\w.]+)", re.MULTILINE)
 IMPORT = re.compile(r"^\s*(pub )?use ")
+ROW = re.compile(r"^(?P<head>\| \[[^]]*\]\(\.\./(?P<path>crates/\w+/specs/\w+\.antt)\) )\| [^|]* \|(?P<says>(?:[^|\n]|\\\|)*)\|[^|\n]*\|$", re.MULTILINE)
 
 
 def read(path):
@@ -83,9 +87,38 @@ def closure(start):
     return specs, declared
 
 
+def mend_guide():
+    """Writes the two columns of the guide's tables anew, and tells which rows are missing or too many."""
+    specs, _ = closure(CLAIMS[-1][1])
+    listed = []
+
+    def row(match):
+        path = match.group("path")
+        listed.append(path)
+        if path not in specs:
+            return match.group(0)
+        cited = list(dict.fromkeys(os.path.basename(spec)[: -len(".antt")] for spec in cited_by(path)[0]))
+        return f"{match.group('head')}| {specs[path]} |{match.group('says')}| {', '.join(cited) or 'nothing'} |"
+
+    guide = os.path.join(ROOT, "docs", "GUIDE.md")
+    with open(guide, encoding="utf-8") as file:
+        text = file.read()
+    text = ROW.sub(row, text)
+    with open(guide, "w", encoding="utf-8") as file:
+        file.write(text)
+    for path in specs:
+        if path not in listed:
+            print(f"no row: {path}")
+    for path in listed:
+        if path not in specs:
+            print(f"run_tool doesn't stand on: {path}")
+
+
 def main(words):
+    if words == ["--guide"]:
+        mend_guide()
     show = "--files" in words
-    starts = [(word, os.path.relpath(os.path.abspath(word), ROOT)) for word in words if word != "--files"]
+    starts = [(word, os.path.relpath(os.path.abspath(word), ROOT)) for word in words if not word.startswith("--")]
     for name, start in starts or CLAIMS:
         specs, declared = closure(start)
         if show:
