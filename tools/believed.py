@@ -14,8 +14,9 @@ declare such types are told apart, and only their number: what is believed of th
 and nothing of the functions beside them. What the toolchain's own library defines isn't counted.
 
 Without FILE it answers for the two claims that the documents speak of: that of a safe text, and that of `run_tool`.
-With --guide it writes the columns "Lines" and "Stands on" of the tables of docs/GUIDE.md anew, and names each file
-that `run_tool` stands on and no table has, and each that a table has and `run_tool` doesn't stand on.
+With --guide it writes the figures of these two into docs/GUIDE.md, and the columns "Lines" and "Stands on" of its
+tables, and names each file that `run_tool` stands on and no table has, and each that a table has and `run_tool` doesn't
+stand on.
 """
 import os
 import re
@@ -57,19 +58,13 @@ def cited_by(path):
             declared.append(source_of(folder + "/src", words[1:]))
         else:
             specs.append(f"{folder}/specs/{words[0]}.antt")
-    return specs, [path for path in declared if path]
+    return specs, declared
 
 
 def source_of(folder, words):
-    """The file of a type: the longest path of modules that is a file, or the crate's root."""
-    for count in range(len(words), 0, -1):
-        path = folder + "/" + "/".join(words[:count]) + ".rt"
-        if os.path.exists(os.path.join(ROOT, path)):
-            return path
-    for root in ("lib.rt", "main.rt"):
-        if os.path.exists(os.path.join(ROOT, folder, root)):
-            return folder + "/" + root
-    return None
+    """The file that declares a type: that of its module, or the crate's root."""
+    path = f"{folder}/{words[0]}.rt"
+    return path if os.path.exists(os.path.join(ROOT, path)) else folder + "/lib.rt"
 
 
 def closure(start):
@@ -77,13 +72,13 @@ def closure(start):
     specs, declared, waiting = {}, set(), [start]
     while waiting:
         path = waiting.pop(0)
-        if path in specs or (path == start and not path.endswith(".antt") and start in declared):
+        if path in specs:
             continue
         if path.endswith(".antt"):
             specs[path] = lines_of(path)
         cited, types = cited_by(path)
         declared.update(types)
-        waiting.extend(spec for spec in cited if spec not in specs)
+        waiting.extend(cited)
     return specs, declared
 
 
@@ -104,6 +99,10 @@ def mend_guide():
     with open(guide, encoding="utf-8") as file:
         text = file.read()
     text = ROW.sub(row, text)
+    for name, start in CLAIMS:
+        files, declared = closure(start)
+        figures = f"| `{name}` | {len(files)} | {sum(files.values()):,} | {len(declared)} |"
+        text = re.sub(rf"^\| `{name}` \|.*\|$", figures, text, flags=re.MULTILINE)
     with open(guide, "w", encoding="utf-8") as file:
         file.write(text)
     for path in specs:
