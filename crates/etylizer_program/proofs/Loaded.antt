@@ -5,7 +5,8 @@ use Rattle.std.specs.Option.{ForSome}
 use Rattle.etylizer_program.specs.declared.report.Verdict.{Verdict}
 use Rattle.etylizer_program.specs.declared.report.Verdict.TheVariants as V
 use Rattle.tool_io.specs.Outside.{Holdings, Loads}
-use Rattle.etylizer_program.specs.Check.{text_limit, IsTextVerdict, IsRightVerdict}
+use Rattle.text_reader.specs.Modules.{text_limit}
+use Rattle.etylizer_program.specs.Check.{IsTextVerdict, IsRightVerdict}
 use Rattle.etylizer_program.specs.Tool.{IsVerdictUnder, JudgesText, JudgesFile, BeginsTextReport, BeginsFileReport}
 
 too_long_is_right : (content : List ℕ) (verdict : Verdict) → verdict ≡ V.TooLong → text_limit < length content → IsRightVerdict content verdict

@@ -1,5 +1,5 @@
 -- From what is said of a module to what is said of its text.
-use Rattle.std.proofs.Common.{◌≡◌, ◌∙◌, ◌<◌, ℕ, List, length, Some, Result, Ok, Err, IfOk, IsErrOf, true, refl, subst, sym}
+use Rattle.std.proofs.Common.{◌≡◌, ◌∙◌, ◌<◌, ◌↔◌, ℕ, List, length, Some, Result, Ok, Err, IfOk, true, refl, subst, sym}
 use Rattle.type_terms.specs.declared.list.NoMemory.{NoMemory}
 use Rattle.erl_tree.specs.declared.form.Module.{Module}
 use Rattle.erl_tree.specs.declared.token.Place.{Place}
@@ -8,20 +8,7 @@ use Rattle.erl_tree.specs.Functions.{functions_in, functions_of}
 use Rattle.erl_runs.specs.Specs.{specs_in}
 use Rattle.typespecs_rules.specs.declared.specs.Specs.{Specs}
 use Rattle.typespecs_rules.specs.SpecTerms.{module_specs}
-use Rattle.erl_tree.specs.declared.token.Placed.{Placed}
-use Rattle.erl_tree.specs.Lists.{Among}
-use Rattle.erl_grammar.specs.FormSpelling.{module_tokens}
-use Rattle.erl_grammar.specs.FormGrammar.{IsModule}
-use Rattle.erl_grammar.specs.FormNesting.{IsModuleWithin, module_deep}
-use Rattle.erl_grammar.specs.Nesting.{nesting_limit}
-use Rattle.erl_grammar.specs.Texts.{SpellsModule, HasIntegersInLimit}
 use Rattle.flat_modules.proofs.FlatLaws.{flat-formed}
-use Rattle.erl_tree.specs.Profile.{IsLexed}
-use Rattle.erl_tree.proofs.Lexed.{lexed_is_spelled}
-use Rattle.erl_parser_tokens.specs.declared.fault.ParseFault.{ParseFault}
-use Rattle.erl_parser_tokens.specs.declared.fault.ParseFault.TheVariants as P
-use Rattle.erl_parser_tokens.specs.Outside.{HasOutside}
-use Rattle.erl_parser.proofs.TextLaws.{one_module, lexed_in_limit}
 use Rattle.flat_modules.specs.FlatModules.{IsFlatModule}
 use Rattle.erl_runs.specs.Safety.{IsSafe}
 use Rattle.text_reader_rules.specs.SafeTexts.{IsSafeText}
@@ -32,7 +19,13 @@ use Rattle.etylizer_program.specs.declared.check.Refused.{Refused}
 use Rattle.cert_checker.specs.declared.refusal.Shown.{Shown}
 use Rattle.etylizer_program.specs.declared.report.Verdict.{Verdict}
 use Rattle.etylizer_program.specs.declared.report.Verdict.TheVariants as V
-use Rattle.etylizer_program.specs.Check.{text_limit, IsReadAs, IsParsedAs, IsAcceptedModule, refused_as, refused_by_parser, IsAcceptedText, IsModuleVerdict, IsTextVerdict, IsTextRefusal, IsRightVerdict}
+use Rattle.etylizer_program.specs.declared.check.Refused.TheVariants as Q
+use Rattle.text_reader.specs.declared.fault.ReadFault.{ReadFault}
+use Rattle.text_reader.specs.declared.reading.ReadModule.{ReadModule}
+use Rattle.text_reader.specs.declared.fault.ReadFault.TheVariants as R
+use Rattle.text_reader.specs.Modules.{text_limit, IsReadModule}
+use Rattle.text_reader.specs.Refusals.{IsReadRefusal}
+use Rattle.etylizer_program.specs.Check.{IsReadAs, IsReadWith, IsAcceptedModule, refused_as, refused_by_reader, IsAcceptedText, IsModuleVerdict, IsTextVerdict, IsTextRefusal, IsRightVerdict}
 use Rattle.etylizer_program.proofs.Flat.{clauses_counted_by_specs}
 
 -- the summary, counted by forms
@@ -92,49 +85,41 @@ text_refused text m refusal refused is read shows = subst (λ (r : Refused). IsT
     right F.NoMemory shows = tt
     right (F.Failed function place kind shown) shows = (m, read, shows)
 
--- ---- texts that were parsed
+-- ---- texts that were read
 
-pub spells : (text : List ℕ) (m : Module) → IsLexed text (module_tokens m) → IsModule m → SpellsModule text m
-spells text m lexed w = record { tokens = lexed_is_spelled text (module_tokens m) lexed; well_formed = w }
-
--- a text is read as the flat module whose tokens it was lexed as
-pub read_as : (text : List ℕ) (m : Module) → IsLexed text (module_tokens m) → IsFlatModule m → IsReadAs text m
-read_as text m lexed flat = record {
-  lexed = lexed;
-  spelled = spells text m lexed flat.well_formed;
-  only = λ other s. one_module text other m s (spells text m lexed flat.well_formed);
-  flat = flat;
+-- a text of which a flat module was read
+pub read_with : (text : List ℕ) (r : ReadModule) → IsReadModule text r.tree r.scopes r.specs → IsFlatModule r.tree → IsReadWith text r.tree r.specs
+read_with text r read flat = record {
+  read = record { lexed = read.parsed.lexed; spelled = read.spelled; only = read.only; flat = flat };
+  specs = read.has_specs.terms.terms;
 }
 
--- the tokens of a module that a text was parsed as
-pub lexed_as : (text : List ℕ) (tokens : List Placed) (m : Module) → IsLexed text tokens → module_tokens m ≡ tokens → IsLexed text (module_tokens m)
-lexed_as text tokens m lexed same = subst (λ (ts : List Placed). IsLexed text ts) (sym same) lexed
-
--- a text was parsed as the module that the parser gives for its tokens
-pub parsed_as : (text : List ℕ) (tokens : List Placed) (m : Module) → IsLexed text tokens → IsModule m × IsModuleWithin nesting_limit m × (module_tokens m ≡ tokens) → IsParsedAs text m
-parsed_as text tokens m lexed found = record { lexed = lexed_as text tokens m lexed found.2; well_formed = found.0; within = found.1 }
-
--- the parser refuses the tokens with this fault
-abbrev pub refuses_with : ParseFault → Result Module ParseFault
-refuses_with fault = Err fault
-
--- a refusal of the parser is right of the text
-pub tokens_refused : (text : List ℕ) (tokens : List Placed) (fault : ParseFault) (refused : Refused) → refused ≡ refused_by_parser fault → IsLexed text tokens
-    → ((p : Place) → IsErrOf (refuses_with fault) (P.TooDeep p) → (m : Module) → IsModule m → module_tokens m ≡ tokens → Among p (module_deep m nesting_limit))
-    → ((p : Place) → IsErrOf (refuses_with fault) (P.Unexpected p) → (m : Module) → IsModule m → module_tokens m ≡ tokens → ⊥)
-    → ((p : Place) (form : List ℕ) → IsErrOf (refuses_with fault) (P.OutOfProfile p form) → HasOutside tokens p form × ((m : Module) → IsModule m → module_tokens m ≡ tokens → ⊥))
-    → IsTextRefusal text refused
-tokens_refused text tokens fault refused is lexed deep unexpected outside = subst (λ (r : Refused). IsTextRefusal text r) (sym is) (right fault deep unexpected outside)
+-- a refusal of the reader is right of the text
+pub reading_refused : (text : List ℕ) (fault : ReadFault) (refused : Refused) → refused ≡ refused_by_reader fault → IsReadRefusal text fault → IsTextRefusal text refused
+reading_refused text fault refused is refuses = subst (λ (r : Refused). IsTextRefusal text r) (sym is) (right fault refuses)
   where
-    right : (fault : ParseFault)
-        → ((p : Place) → IsErrOf (refuses_with fault) (P.TooDeep p) → (m : Module) → IsModule m → module_tokens m ≡ tokens → Among p (module_deep m nesting_limit))
-        → ((p : Place) → IsErrOf (refuses_with fault) (P.Unexpected p) → (m : Module) → IsModule m → module_tokens m ≡ tokens → ⊥)
-        → ((p : Place) (form : List ℕ) → IsErrOf (refuses_with fault) (P.OutOfProfile p form) → HasOutside tokens p form × ((m : Module) → IsModule m → module_tokens m ≡ tokens → ⊥))
-        → IsTextRefusal text (refused_by_parser fault)
-    right P.NoMemory d u o = tt
-    right (P.TooDeep p) d u o = record { tokens = tokens; lexed = lexed; deep = d p refl }
-    right (P.Unexpected p) d u o = record { tokens = tokens; spells_none = record { lexed = lexed; none = u p refl } }
-    right (P.OutOfProfile p form) d u o = record { tokens = tokens; spells_none = record { lexed = lexed; none = (o p form refl).1 }; stands = (o p form refl).0 }
+    right : (fault : ReadFault) → IsReadRefusal text fault → IsTextRefusal text (refused_by_reader fault)
+    right R.NoMemory is = tt
+    right R.TooLong is = is
+    right (R.Lex fault) is = is
+    right (R.Parse fault) is = is
+    right (R.Scope fault) is = is
+    right (R.Spec fault) is = is
 
-pub limits : (text : List ℕ) (m : Module) → IsLexed text (module_tokens m) → HasIntegersInLimit m
-limits text m lexed = lexed_in_limit text (module_tokens m) lexed
+-- it says that the text is too long where the reader does
+pub long_refused : (fault : ReadFault) (refused : Refused) → refused ≡ refused_by_reader fault → (refused ≡ Q.TooLong) ↔ (fault ≡ R.TooLong)
+long_refused R.NoMemory refused is = ((λ e. cc), (λ e. cc))
+long_refused R.TooLong refused is = ((λ e. refl), (λ e. is))
+long_refused (R.Lex fault) refused is = ((λ e. cc), (λ e. cc))
+long_refused (R.Parse fault) refused is = ((λ e. cc), (λ e. cc))
+long_refused (R.Scope fault) refused is = ((λ e. cc), (λ e. cc))
+long_refused (R.Spec fault) refused is = ((λ e. cc), (λ e. cc))
+
+-- it tells of no constraint
+pub no_types_refused : (fault : ReadFault) (refused : Refused) (refusal : FirstRefusal) → refused ≡ refused_by_reader fault → refused ≡ Q.Types refusal → ⊥
+no_types_refused R.NoMemory refused refusal is e = cc
+no_types_refused R.TooLong refused refusal is e = cc
+no_types_refused (R.Lex fault) refused refusal is e = cc
+no_types_refused (R.Parse fault) refused refusal is e = cc
+no_types_refused (R.Scope fault) refused refusal is e = cc
+no_types_refused (R.Spec fault) refused refusal is e = cc

@@ -1,5 +1,5 @@
 -- What the program says of a module's text.
-use Rattle.std.specs.Prelude.{◌≡◌, ◌≢◌, ◌⊎◌, ◌<◌, ◌+◌, ◌↔◌, ℕ, List, [], ◌∷◌, length, slice_get, Option, Some, None, Result, Ok, Err}
+use Rattle.std.specs.Prelude.{◌≡◌, ◌⊎◌, ◌<◌, ◌+◌, ◌↔◌, ℕ, List, [], ◌∷◌, length, slice_get, Some, Result, Ok, Err}
 use Rattle.std.specs.Option.{option_map}
 use Rattle.type_terms.specs.declared.spec.Kind.{Kind}
 use Rattle.erl_tree.specs.declared.token.Place.{Place}
@@ -9,35 +9,27 @@ use Rattle.erl_tree.specs.declared.form.SpecKind.{SpecKind}
 use Rattle.erl_tree.specs.declared.form.Module.{Module}
 use Rattle.erl_tree.specs.Functions.{functions_of, clauses_arity}
 use Rattle.erl_runs.specs.Specs.{specs_in}
-use Rattle.erl_tree.specs.declared.token.Placed.{Placed}
 use Rattle.erl_grammar.specs.FormSpelling.{module_tokens}
-use Rattle.erl_grammar.specs.FormGrammar.{IsModule}
-use Rattle.erl_grammar.specs.FormNesting.{module_deep, IsModuleWithin}
-use Rattle.erl_grammar.specs.Nesting.{nesting_limit}
 use Rattle.erl_grammar.specs.Texts.{SpellsModule}
-use Rattle.erl_parser_tokens.specs.declared.fault.ParseFault.{ParseFault}
-use Rattle.erl_parser_tokens.specs.declared.fault.ParseFault.TheVariants as P
-use Rattle.erl_parser_tokens.specs.Outside.{HasOutside}
 use Rattle.erl_tree.specs.Profile.{IsLexed}
-use Rattle.erl_lexer.specs.declared.LexFault.{LexFault}
 use Rattle.erl_lexer.specs.declared.LexFault.TheVariants as L
-use Rattle.erl_lexer.specs.Faults.{IsFault}
-use Rattle.erl_tree.specs.Lists.{Every, Among}
+use Rattle.erl_tree.specs.Lists.{Every}
 use Rattle.erl_scope_rules.specs.declared.fault.NameFault.{NameFault}
 use Rattle.erl_scope_rules.specs.declared.fault.NameFault.TheVariants as N
 use Rattle.erl_scope_rules.specs.declared.fault.PlacedFault.{PlacedFault}
-use Rattle.erl_scope_rules.specs.ScopeFaults.{HasRightNames, IsFirstFault as IsFirstNameFault}
 use Rattle.typespecs_rules.specs.declared.fault.TypeFault.{TypeFault}
 use Rattle.typespecs_rules.specs.declared.fault.TypeFault.TheVariants as T
 use Rattle.typespecs_rules.specs.declared.fault.Outside.{Outside}
 use Rattle.typespecs_rules.specs.declared.fault.PlacedFault.{PlacedFault as TypePlacedFault}
 use Rattle.typespecs_rules.specs.declared.specs.Specs.{Specs}
 use Rattle.typespecs_rules.specs.SpecTerms.{module_specs}
-use Rattle.typespecs_rules.specs.TypeFaults.{IsFirstFault as IsFirstSpecFault, fault_at, outside_words}
-use Rattle.typespecs.specs.declared.fault.SpecFault.{SpecFault}
+use Rattle.typespecs_rules.specs.TypeFaults.{fault_at, outside_words}
 use Rattle.typespecs.specs.FaultPlaces.{placed_fault as placed_spec_fault}
 use Rattle.text_reader_rules.specs.Readable.{IsReadable}
-use Rattle.erl_scope.specs.declared.fault.ScopeFault.{ScopeFault}
+use Rattle.text_reader.specs.declared.fault.ReadFault.{ReadFault}
+use Rattle.text_reader.specs.declared.fault.ReadFault.TheVariants as R
+use Rattle.text_reader.specs.Modules.{text_limit, IsParsedAs, HasWrongNames, HasWrongSpecs}
+use Rattle.text_reader.specs.Refusals.{IsFirstFault, IsUnexpected, IsOutOfProfile, IsTooDeep, IsParseRefusal, IsScopeRefusal, IsSpecRefusal}
 use Rattle.erl_scope.specs.FaultPlaces.{placed_fault}
 use Rattle.flat_modules.specs.FlatModules.{IsFlatModule}
 use Rattle.erl_runs.specs.Safety.{IsSafe}
@@ -55,10 +47,6 @@ use Rattle.etylizer_program.specs.declared.report.Verdict.TheVariants.{Accepted,
 use Rattle.etylizer_program.specs.declared.report.Words.{Words}
 use Rattle.etylizer_program.specs.declared.report.Words.TheVariants as W
 
--- the greatest number of bytes of a module's text
-abbrev pub text_limit : ℕ
-text_limit = 1048576
-
 -- the bytes are lexed as this module's tokens and spell no other one, and it is flat
 pub record IsReadAs (text : List ℕ) (m : Module) : Type 0 where
   pub lexed : IsLexed text (module_tokens m)
@@ -71,79 +59,9 @@ pub record IsReadWith (text : List ℕ) (m : Module) (s : Specs) : Type 0 where
   pub read : IsReadAs text m
   pub specs : module_specs m ≡ Some s
 
--- ---- texts without a flat module
+-- ---- texts that are read
 
--- the bytes are lexed as these tokens, and no well-formed module has them
-pub record SpellsNone (text : List ℕ) (tokens : List Placed) : Type 0 where
-  pub lexed : IsLexed text tokens
-  pub none : (m : Module) → IsModule m → module_tokens m ≡ tokens → ⊥
-
--- the bytes are lexed as tokens of no well-formed module
-pub record IsUnexpected (text : List ℕ) : Type 0 where
-  pub tokens : List Placed
-  pub spells_none : SpellsNone text tokens
-
--- the same, and a form of this name, which is outside of the profile, begins at the place
-pub record IsOutOfProfile (text : List ℕ) (place : Place) (form : List ℕ) : Type 0 where
-  pub tokens : List Placed
-  pub spells_none : SpellsNone text tokens
-  pub stands : HasOutside tokens place form
-
--- the bytes are lexed, and in every well-formed module with their tokens a node that is nested too deep begins at the place
-pub record IsTooDeep (text : List ℕ) (place : Place) : Type 0 where
-  pub tokens : List Placed
-  pub lexed : IsLexed text tokens
-  pub deep : (m : Module) → IsModule m → module_tokens m ≡ tokens → Among place (module_deep m nesting_limit)
-
--- why the parser refuses the tokens of a text
-abbrev pub IsParseRefusal : List ℕ → ParseFault → Type 0
-IsParseRefusal text P.NoMemory = ⊥
-IsParseRefusal text (P.OutOfProfile place form) = IsOutOfProfile text place form
-IsParseRefusal text (P.Unexpected place) = IsUnexpected text
-IsParseRefusal text (P.TooDeep place) = IsTooDeep text place
-
--- the bytes are lexed as the tokens of a well-formed module, nested within the limit
-pub record IsParsedAs (text : List ℕ) (m : Module) : Type 0 where
-  pub lexed : IsLexed text (module_tokens m)
-  pub well_formed : IsModule m
-  pub within : IsModuleWithin nesting_limit m
-
--- there is no such module: the bytes aren't lexed, or they are lexed as tokens of no well-formed module, or of one that is nested too deep
-abbrev pub HasNoModule : List ℕ → Type 0
-HasNoModule text = (m : Module) → IsParsedAs text m → ⊥
-
--- there is such a module, and this is the first fault of its names
-pub record HasWrongNames (text : List ℕ) (fault : PlacedFault) : Type 0 where
-  pub tree : Module
-  pub parsed : IsParsedAs text tree
-  pub first : IsFirstNameFault tree fault
-
--- the first fault of the names, if one is told
-abbrev pub HasToldFault : List ℕ → Option PlacedFault → Type 0
-HasToldFault text None = ⊥
-HasToldFault text (Some fault) = HasWrongNames text fault
-
--- why the names of a text's module are refused
-abbrev pub IsScopeRefusal : List ℕ → ScopeFault → Type 0
-IsScopeRefusal text fault = HasToldFault text (placed_fault fault)
-
--- there is such a module, nothing is wrong with its names, and this is the first fault of its types, records and specs
-pub record HasWrongSpecs (text : List ℕ) (fault : TypePlacedFault) : Type 0 where
-  pub tree : Module
-  pub parsed : IsParsedAs text tree
-  pub right_names : HasRightNames tree
-  pub first : IsFirstSpecFault tree fault
-
--- the first fault of the types, records and specs, if one is told
-abbrev pub HasToldSpecFault : List ℕ → Option TypePlacedFault → Type 0
-HasToldSpecFault text None = ⊥
-HasToldSpecFault text (Some fault) = HasWrongSpecs text fault
-
--- why the types, records and specs of a text's module are refused
-abbrev pub IsSpecRefusal : List ℕ → SpecFault → Type 0
-IsSpecRefusal text fault = HasToldSpecFault text (placed_spec_fault fault)
-
--- there is such a module, it is readable, and it isn't flat
+-- the bytes are lexed as the tokens of a well-formed module, nested within the limit; it is readable, and it isn't flat
 pub record IsNotBuilt (text : List ℕ) : Type 0 where
   pub tree : Module
   pub parsed : IsParsedAs text tree
@@ -196,11 +114,6 @@ pub record IsAcceptedText (text name : List ℕ) (functions clauses : ℕ) : Typ
 
 -- ---- modules that are refused
 
--- the first fault of the lexer, which isn't want of memory
-pub record IsFirstFault (text : List ℕ) (fault : LexFault) : Type 0 where
-  pub stands : IsFault text fault
-  pub proper : fault ≢ L.NoMemory
-
 -- a constraint of the module fails
 abbrev pub IsFailure : Module → FirstRefusal → Type 0
 IsFailure m NoMemoryToCheck = ⊥
@@ -211,12 +124,14 @@ abbrev pub refused_as : FirstRefusal → Refused
 refused_as NoMemoryToCheck = NoMemoryForText
 refused_as (FailedConstraint function place kind shown) = Types (FailedConstraint function place kind shown)
 
--- why a text is refused whose tokens are refused
-abbrev pub refused_by_parser : ParseFault → Refused
-refused_by_parser P.NoMemory = NoMemoryForText
-refused_by_parser (P.OutOfProfile place form) = ParseText (P.OutOfProfile place form)
-refused_by_parser (P.Unexpected place) = ParseText (P.Unexpected place)
-refused_by_parser (P.TooDeep place) = ParseText (P.TooDeep place)
+-- why a text is refused of which no readable module was read
+abbrev pub refused_by_reader : ReadFault → Refused
+refused_by_reader R.NoMemory = NoMemoryForText
+refused_by_reader R.TooLong = TooLongText
+refused_by_reader (R.Lex fault) = LexText fault
+refused_by_reader (R.Parse fault) = ParseText fault
+refused_by_reader (R.Scope fault) = ScopeText fault
+refused_by_reader (R.Spec fault) = SpecText fault
 
 -- why a text may be refused
 abbrev pub IsTextRefusal : List ℕ → Refused → Type 0

@@ -11,7 +11,8 @@ use Rattle.etylizer_program.specs.declared.report.Verdict.TheVariants.{Accepted,
 use Rattle.tool_io.specs.Outside.{Holdings, IsHeld, Puts, PutsBeginning}
 use Rattle.etylizer_program.specs.Commands.{command_of}
 use Rattle.etylizer_program.specs.Report.{report_text}
-use Rattle.etylizer_program.specs.Check.{text_limit, function_count, spec_clause_count, HasNoModule, HasWrongNames, HasWrongSpecs, IsNotBuilt, IsRightText, IsRightVerdict}
+use Rattle.text_reader.specs.Modules.{text_limit, HasNoModule, HasWrongNames, HasWrongSpecs}
+use Rattle.etylizer_program.specs.Check.{function_count, spec_clause_count, IsNotBuilt, IsRightText, IsRightVerdict}
 
 -- the words are `check FILE`
 abbrev pub IsCheckOf : List (List ℕ) → (file : List ℕ) → Type 0

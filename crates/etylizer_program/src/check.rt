@@ -1,29 +1,25 @@
 ghost use Rattle.std.specs.Prelude.{◌≡◌, ◌⊎◌, ◌<◌, ◌≤◌, ◌↔◌, Some, length, IfOk, IfErr, IsOk, IsErrOf};
-ghost use Rattle.erl_tree.specs.Profile.{IsLexed};
-ghost use Rattle.erl_scope_rules.specs.ScopeFaults.{HasRightNames};
 ghost use Rattle.typespecs_rules.specs.SpecTerms.{module_specs};
-ghost use Rattle.typespecs_rules.specs.TypeFaults.{HasSpecs};
 ghost use Rattle.typespecs_rules.specs.declared.fault.PlacedFault.{PlacedFault as TypePlacedFault};
 ghost use Rattle.erl_scope_rules.specs.declared.fault.PlacedFault.{PlacedFault};
+ghost use Rattle.text_reader.specs.Modules.{text_limit, HasNoModule, HasWrongNames, HasWrongSpecs, IsReadModule};
 ghost use Rattle.flat_modules.specs.FlatModules.{IsFlatModule};
 ghost use Rattle.cert_checker.specs.declared.refusal.FirstRefusal.{FirstRefusal as Failure};
 ghost use Rattle.cert_checker.specs.Failures.{ShowsFirstFailure};
-ghost use Rattle.etylizer_program.specs.Check.{text_limit, HasNoModule, HasWrongNames, HasWrongSpecs, IsNotBuilt, IsRightText, IsReadWith, IsParsedAs, IsNoModuleAnswer, IsWrongNamesAnswer, IsWrongSpecsAnswer, refused_by_parser, IsAcceptedModule, IsAcceptedText, IsTextRefusal, refused_as};
+ghost use Rattle.etylizer_program.specs.Check.{IsNotBuilt, IsRightText, IsReadWith, IsNoModuleAnswer, IsWrongNamesAnswer, IsWrongSpecsAnswer, IsAcceptedModule, IsAcceptedText, IsTextRefusal, refused_as, refused_by_reader};
 
 use crate::count::{count_functions, count_specs};
 use cert_checker::{FirstRefusal, check_first};
-use erl_lexer::{LexFault, lex};
-use erl_parser::{ParseFault, parse};
-use erl_scope::{ScopeFault, resolve};
-use erl_tree::{Module, Placed};
+use erl_lexer::LexFault;
+use erl_parser::ParseFault;
+use erl_scope::ScopeFault;
+use erl_tree::Module;
 use flat_tests::is_flat_module;
 use std::alloc::Global;
-use type_terms::{List, NoMemory, Plain, Text};
-use typespecs::{SpecFault, read_specs};
+use text_reader::{ReadFault, ReadModule, read_text};
+use type_terms::{NoMemory, Plain, Text};
+use typespecs::SpecFault;
 use typespecs_rules::Specs;
-
-/// The greatest number of bytes of a module's text.
-pub const TEXT_LIMIT: u64 = 1048576;
 
 /// A safe module: its name, and the numbers of its functions and spec clauses.
 #[derive(Drop)]
@@ -53,11 +49,19 @@ pub enum Refused {
     Types(FirstRefusal),
 }
 
-/// The flat module that a text spells, and its specs.
-#[derive(Drop)]
-pub struct ReadText {
-    pub tree: Module,
-    pub specs: Specs,
+impl From<ReadFault> for Refused {
+    ghost from_gives = { λ fault refused. refused ≡ refused_by_reader fault };
+
+    fn from(fault: ReadFault) -> Refused {
+        match fault {
+            ReadFault::NoMemory => Refused::NoMemory,
+            ReadFault::TooLong => Refused::TooLong,
+            ReadFault::Lex(fault) => Refused::Lex(fault),
+            ReadFault::Parse(fault) => Refused::Parse(fault),
+            ReadFault::Scope(fault) => Refused::Scope(fault),
+            ReadFault::Spec(fault) => Refused::Spec(fault),
+        }
+    }
 }
 
 impl From<FirstRefusal> for Refused {
@@ -102,103 +106,37 @@ fn read_and_check(alloc: Global, text: &[u8]) -> Result<Accepted, Refused>
     ensures refused { IfErr result (IsTextRefusal text.now) }
     ensures too_long { IsErrOf result Refused.TooLong ↔ (text_limit < length text.now) }
 {
-    let read = read_text(alloc, text)?;
+    let read = read_flat(alloc, text)?;
     Ok(check_module(alloc, &read.tree, &read.specs)?)
 }
 
-/// The flat module that a text spells, and its specs.
+/// What is read of a text, where its module is flat.
 ///
 /// # Errors
 ///
 /// Those of `check_text` without `Types`.
-pub fn read_text(alloc: Global, text: &[u8]) -> Result<ReadText, Refused>
+pub fn read_flat(alloc: Global, text: &[u8]) -> Result<ReadModule, Refused>
     ensures read { IfOk result (λ r. IsReadWith text.now r.tree r.specs) }
     ensures refused { IfErr result (IsTextRefusal text.now) }
     ensures too_long { IsErrOf result Refused.TooLong ↔ (text_limit < length text.now) }
     ensures types { (refusal : Failure) → IsErrOf result (Refused.Types refusal) → ⊥ }
 {
-    if text.len() as u64 > TEXT_LIMIT {
-        return Err(Refused::TooLong);
-    }
-    match lex(alloc, text) {
-        Err(LexFault::NoMemory) => Err(Refused::NoMemory),
-        Err(fault) => Err(Refused::Lex(fault)),
-        Ok(tokens) => read_tokens(alloc, text, &tokens),
+    match read_text(alloc, text) {
+        Ok(read) => flat_or_refused(alloc, text, read),
+        Err(fault) => Err(Refused::from(fault)),
     }
 }
 
-/// The flat module whose tokens a text was lexed as.
-fn read_tokens(alloc: Global, text: &[u8], tokens: &List<Placed>) -> Result<ReadText, Refused>
-    requires lexed { IsLexed text.now tokens.now }
+/// What was read of a text, where its module is flat.
+fn flat_or_refused(alloc: Global, text: &[u8], read: ReadModule) -> Result<ReadModule, Refused>
+    requires { IsReadModule text.now read.tree read.scopes read.specs }
     ensures read { IfOk result (λ r. IsReadWith text.now r.tree r.specs) }
     ensures refused { IfErr result (IsTextRefusal text.now) }
     ensures short { IsErrOf result Refused.TooLong → ⊥ }
     ensures types { (refusal : Failure) → IsErrOf result (Refused.Types refusal) → ⊥ }
 {
-    match parse(alloc, tokens) {
-        Ok(tree) => read_module(alloc, text, tree),
-        Err(fault) => Err(refused_by(fault)),
-    }
-}
-
-/// Why a text is refused whose tokens the parser refuses.
-fn refused_by(fault: ParseFault) -> Refused
-    ensures { result ≡ refused_by_parser fault }
-{
-    match fault {
-        ParseFault::NoMemory => Refused::NoMemory,
-        refused => Refused::Parse(refused),
-    }
-}
-
-/// The module as which a text was parsed, where its names and its specs are right and it is flat.
-fn read_module(alloc: Global, text: &[u8], tree: Module) -> Result<ReadText, Refused>
-    requires { IsParsedAs text.now tree }
-    ensures read { IfOk result (λ r. IsReadWith text.now r.tree r.specs) }
-    ensures refused { IfErr result (IsTextRefusal text.now) }
-    ensures short { IsErrOf result Refused.TooLong → ⊥ }
-    ensures types { (refusal : Failure) → IsErrOf result (Refused.Types refusal) → ⊥ }
-{
-    match resolve(alloc, &tree) {
-        Ok(_) => read_resolved(alloc, text, tree),
-        Err(ScopeFault::NoMemory) => Err(Refused::NoMemory),
-        Err(fault) => Err(Refused::Scope(fault)),
-    }
-}
-
-/// The module as which a text was parsed, whose names are right, where its specs are right and it is flat.
-fn read_resolved(alloc: Global, text: &[u8], tree: Module) -> Result<ReadText, Refused>
-    requires parsed { IsParsedAs text.now tree }
-    requires right_names { HasRightNames tree }
-    ensures read { IfOk result (λ r. IsReadWith text.now r.tree r.specs) }
-    ensures refused { IfErr result (IsTextRefusal text.now) }
-    ensures short { IsErrOf result Refused.TooLong → ⊥ }
-    ensures types { (refusal : Failure) → IsErrOf result (Refused.Types refusal) → ⊥ }
-{
-    match read_specs(alloc, &tree) {
-        Ok(specs) => read_specified(alloc, text, tree, specs),
-        Err(SpecFault::NoMemory) => Err(Refused::NoMemory),
-        Err(fault) => Err(Refused::Spec(fault)),
-    }
-}
-
-/// The module as which a text was parsed, whose names are right and whose specs these are, where it is flat.
-fn read_specified(
-    alloc: Global,
-    text: &[u8],
-    tree: Module,
-    specs: Specs,
-) -> Result<ReadText, Refused>
-    requires parsed { IsParsedAs text.now tree }
-    requires right_names { HasRightNames tree }
-    requires specs { HasSpecs tree specs }
-    ensures read { IfOk result (λ r. IsReadWith text.now r.tree r.specs) }
-    ensures refused { IfErr result (IsTextRefusal text.now) }
-    ensures short { IsErrOf result Refused.TooLong → ⊥ }
-    ensures types { (refusal : Failure) → IsErrOf result (Refused.Types refusal) → ⊥ }
-{
-    match is_flat_module(alloc, &tree) {
-        Ok(true) => Ok(ReadText { tree, specs }),
+    match is_flat_module(alloc, &read.tree) {
+        Ok(true) => Ok(read),
         Ok(false) => Err(Refused::NotBuilt),
         Err(NoMemory) => Err(Refused::NoMemory),
     }

@@ -4,9 +4,11 @@ ghost use Rattle.typespecs_rules.specs.SpecTerms.{module_specs};
 ghost use Rattle.typespecs_rules.specs.TypeFaults as type_faults;
 ghost use Rattle.flat_modules.specs.FlatModules.{IsFlatModule};
 ghost use Rattle.cert_checker.specs.Failures.{ShowsFirstFailure};
-ghost use Rattle.etylizer_program.specs.Check.{text_limit, IsFirstFault, IsParseRefusal, IsScopeRefusal, IsSpecRefusal, IsModuleVerdict, IsRightVerdict};
+ghost use Rattle.text_reader.specs.Modules.{text_limit};
+ghost use Rattle.text_reader.specs.Refusals.{IsFirstFault, IsParseRefusal, IsScopeRefusal, IsSpecRefusal};
+ghost use Rattle.etylizer_program.specs.Check.{IsModuleVerdict, IsRightVerdict};
 
-use crate::check::{Refused, check_module, read_text};
+use crate::check::{Refused, check_module, read_flat};
 use crate::count::function_at;
 use crate::report::{Verdict, Words};
 use cert_checker::{FirstRefusal, Shown};
@@ -23,7 +25,7 @@ use typespecs_rules::{Outside, Specs};
 pub fn judge(alloc: Global, text: &[u8]) -> Result<Verdict, NoMemory>
     ensures { IfOk result (IsRightVerdict text.now) }
 {
-    match read_text(alloc, text) {
+    match read_flat(alloc, text) {
         Ok(read) => judge_module(alloc, &read.tree, &read.specs),
         Err(Refused::NoMemory) => Err(NoMemory),
         Err(Refused::TooLong) => Ok(Verdict::TooLong),

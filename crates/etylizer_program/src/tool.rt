@@ -7,11 +7,11 @@ ghost use Rattle.etylizer_program.specs.Check.{fault_words, spec_fault_words};
 ghost use Rattle.erl_scope_rules.specs.declared.fault.PlacedFault.{PlacedFault};
 ghost use Rattle.typespecs_rules.specs.declared.fault.PlacedFault.{PlacedFault as TypePlacedFault};
 
-use crate::check::TEXT_LIMIT;
 use crate::command::{Command, command_of};
 use crate::judge::judge;
 use crate::report::{Verdict, report};
 use std::alloc::Global;
+use text_reader::TEXT_LIMIT;
 use tool_io::{Files, LoadFault, PutFault, Sink};
 use type_terms::{NoMemory, Text};
 
