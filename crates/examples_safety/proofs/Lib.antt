@@ -1,2 +1,3 @@
 mod SmallRuns
 mod Safe
+mod FunArguments

@@ -16,7 +16,7 @@ use Rattle.type_terms.specs.Parts.{children, positive_children, layer_children, 
 use Rattle.type_terms.specs.Signs.{IsWellSigned}
 use Rattle.type_terms.proofs.Contained.{contains-none, contains-cases}
 use Rattle.type_terms.proofs.PartLaws.{kind_number, each-part, under-step}
-use Rattle.type_terms.proofs.SmallCases.{Kept, kept-even, no-names, no-name-leaf, well-signed, no-definitions}
+use Rattle.type_terms.proofs.SmallCases.{Kept, kept-even, no-names, no-name-leaf, well-signed, no-definitions, integers-instance}
 use Rattle.erl_tree.specs.declared.token.Node.{Node}
 use Rattle.erl_tree.specs.declared.expr.ExprKind.{ExprKind}
 use Rattle.erl_tree.specs.declared.form.Function.{Function}
@@ -31,7 +31,7 @@ use Rattle.erl_runs.proofs.FiniteMapLaws.{get-insert_same}
 use Rattle.erl_runs.proofs.RunLaws.{runs-Int, runs-Var}
 use Rattle.erl_runs.proofs.Equations.{in-Var}
 use Rattle.erl_runs.proofs.BoundFree.{apply-none}
-use Rattle.examples_safety.specs.SmallSafety.{function, module_of, variable, zero_written, integers, arrow, first_clause, both_clauses, f_gives_argument, f_gives_zero, identity_spec, id_gives_argument, id_gives_zero, atoms_for_a, atom_a}
+use Rattle.examples_safety.specs.SmallSafety.{function, module_of, variable, zero_written, integers, arrow, first_clause, both_clauses, f_gives_argument, f_gives_zero, identity_spec, id_gives_argument, id_gives_zero, integers_for_a, atoms_for_a, atom_a}
 use Rattle.examples_safety.proofs.SmallRuns.{has-one, applied}
 
 -- ---- what safety says of a module of one function
@@ -86,7 +86,7 @@ module _ (name x : Name) (e : Node ExprKind) (specs : List FunSpec) where
 
 -- ---- expressions
 
-argument-runs : (x : Name) (code : Code) (applies : Applies) (v : Value) (steps : ℕ) → run_expression code applies (variable x) 0 (with_variable x v no_bindings) steps ≡ gives v steps
+pub argument-runs : (x : Name) (code : Code) (applies : Applies) (v : Value) (steps : ℕ) → run_expression code applies (variable x) 0 (with_variable x v no_bindings) steps ≡ gives v steps
 argument-runs x code applies v steps = runs-Var _ _ _ applies x 0 (with_variable x v no_bindings) steps ∙ ap (λ o. ends (meaning code.unbound o) steps) (get-insert_same {b = any_atom} (AtomKey x) refl v no_bindings)
 
 zero-runs : (x : Name) (code : Code) (applies : Applies) (v : Value) (steps : ℕ) → run_expression code applies zero_written 0 (with_variable x v no_bindings) steps ≡ gives (integer (pos 0)) steps
@@ -149,3 +149,7 @@ id-broken h =
     from-safe (codes "id") (codes "X") zero_written identity_spec h [] (arrow (Var 0) (Var 0)) atoms_for_a (atom_a ∷ []) 1 (0, omega arith, refl) atoms-instance (λ k. ((in-Var p k given_definitions atom_a 0 AnyAtom [] no_variables no_variables).1 tt, tt)) in
     (in-Var p 0 given_definitions (integer (pos 0)) 0 AnyAtom [] no_variables no_variables).0
     (r.value (integer (pos 0)) (ap (λ (r : Run Value). r.outcome) (value-runs (codes "id") (codes "X") zero_written identity_spec refl (λ v. integer (pos 0)) (zero-runs (codes "X")) [] atom_a 0)) 0)
+
+pub id-right : (outside : List (Node ExprKind)) (args : List Value) (steps : ℕ) → AlwaysIn (program (codes "id") (codes "X") zero_written identity_spec outside) args (Var 0 ∷ []) integers_for_a → IsRightRun (program (codes "id") (codes "X") zero_written identity_spec outside) (apply (code (codes "id") (codes "X") zero_written identity_spec outside) (named_fun (codes "id") 1) args steps) (Var 0) integers_for_a
+id-right outside args steps h = value-right (codes "id") (codes "X") zero_written identity_spec refl (λ v. integer (pos 0)) (zero-runs (codes "X")) outside (Var 0) (Var 0) integers_for_a args steps (0, omega arith, refl) (integers-instance 0)
+    (λ v k a. (in-Var (program (codes "id") (codes "X") zero_written identity_spec outside) k given_definitions (integer (pos 0)) 0 integers [] no_variables no_variables).1 refl) h
