@@ -1,30 +1,24 @@
 -- Small modules whose function applies its argument, and closures of outside fun expressions.
-use Rattle.std.proofs.Common.{◌≡◌, refl, sym, ap, ◌∙◌, subst, ℕ, zero, suc, pos, ◌<◌, List, [], ◌∷◌, ◌++◌, ⊎_elim, arith}
+use Rattle.std.proofs.Common.{◌≡◌, refl, sym, ap, ◌∙◌, subst, ℕ, zero, suc, pos, List, [], ◌∷◌, ◌++◌, ⊎_elim, arith}
 use Rattle.std.specs.Prelude.{Some, None, false, codes, slice_get}
-use Rattle.std.specs.List.{Contains}
-use Rattle.type_terms.specs.declared.term.Def.{Def}
 use Rattle.type_terms.specs.declared.spec.Arrow.{Arrow}
-use Rattle.type_terms.specs.declared.spec.FunSpec.{FunSpec}
 use Rattle.type_terms.specs.Definitions.{given_definitions}
 use Rattle.type_terms.specs.Instances.{Instance, IsInstance, no_variables}
-use Rattle.type_terms.specs.Keys.{Name}
 use Rattle.type_terms.proofs.Contained.{contains-none, contains-cases}
 use Rattle.erl_tree.specs.declared.token.Node.{Node}
 use Rattle.erl_tree.specs.declared.expr.ExprKind.{ExprKind, out-ExprKind}
 use Rattle.erl_tree.specs.declared.expr.ExprKind.TheVariants as X
-use Rattle.erl_tree.specs.declared.expr.ClauseKind.{roll-ClauseKind}
 use Rattle.erl_tree.specs.Functions.{functions_of}
-use Rattle.erl_runs.specs.Names.{is_wildcard}
-use Rattle.erl_runs.specs.Value.{Value, named_fun, closure, Environment, no_bindings, Outcome, came, going, wrong, Run}
+use Rattle.erl_runs.specs.Value.{Value, named_fun, Environment, no_bindings, Outcome, wrong, Run}
 use Rattle.erl_runs.specs.Matching.{with_variable}
-use Rattle.erl_runs.specs.Membership.{Program, InTerm, IsGoodRun, ends_well, values_in, arrows_of}
-use Rattle.erl_runs.specs.Running.{Code, Applies, Does, Part, gives, then, literal, behind, with_itself, is_fun_layer, with_calls, applies_nothing, arity_of, run_kind, run_expression, funs_in_function, funs_in_functions, fun_arity, fun_layer_arity, run_closure, code_of, apply, program_of}
+use Rattle.erl_runs.specs.Membership.{Program, InTerm, IsGoodRun, ends_well, values_in}
+use Rattle.erl_runs.specs.Running.{Code, Applies, Does, gives, then, literal, behind, with_itself, is_fun_layer, with_calls, applies_nothing, arity_of, run_kind, run_expression, funs_in_functions, fun_arity, fun_layer_arity, run_closure, code_of, apply, program_of}
 use Rattle.erl_runs.specs.Safety.{AlwaysIn, IsRightRun, IsSafe}
 use Rattle.erl_runs.proofs.RunLaws.{expr_part, run_kind-Int, run_kind-Atom, run_kind-Var, run_kind-Apply, run_kind-Fun, item_kind-Value, choice_kind-roll, runs-Int, runs-Atom, runs-Var}
 use Rattle.erl_runs.proofs.Equations.{in-Ints, in-Fun-iff}
 use Rattle.erl_runs.proofs.BoundFree.{apply-none, apply-step}
 use Rattle.erl_runs.proofs.SpentSteps.{spends}
-use Rattle.examples_safety.specs.SmallSafety.{node, clause, clause_layer, function, module_of, variable, one_written, a_written, integers, arrow, integer_funs, app_spec, app_of_one, app_of_atom, fun_that_keeps, fun_that_breaks, first_closure, one, atom_a}
+use Rattle.examples_safety.specs.SmallSafety.{node, clause, clause_layer, module_of, variable, one_written, a_written, integers, arrow, integer_funs, app_spec, app_of_one, app_of_atom, fun_that_keeps, fun_that_breaks, first_closure, one, atom_a}
 use Rattle.examples_safety.proofs.SmallRuns.{clause-runs, has-one, applied}
 use Rattle.examples_safety.proofs.Safe.{code, program, to-safe, from-safe, none-right, argument-runs}
 

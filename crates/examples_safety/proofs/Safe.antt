@@ -12,7 +12,7 @@ use Rattle.type_terms.specs.Definitions.{given_definitions, FieldsAscend}
 use Rattle.type_terms.specs.Instances.{Instance, IsInstance, no_variables}
 use Rattle.type_terms.specs.Keys.{Name, ascending, any_atom}
 use Rattle.type_terms.specs.declared.term.Key.TheVariants.{Atom as AtomKey}
-use Rattle.type_terms.specs.Parts.{children, positive_children, layer_children, layer_positive_children, field_keys}
+use Rattle.type_terms.specs.Parts.{layer_children, layer_positive_children, field_keys}
 use Rattle.type_terms.specs.Signs.{IsWellSigned}
 use Rattle.type_terms.proofs.Contained.{contains-none, contains-cases}
 use Rattle.type_terms.proofs.PartLaws.{kind_number, each-part, under-step}
@@ -22,10 +22,10 @@ use Rattle.erl_tree.specs.declared.expr.ExprKind.{ExprKind}
 use Rattle.erl_tree.specs.declared.form.Function.{Function}
 use Rattle.erl_tree.specs.Functions.{clauses_arity}
 use Rattle.erl_runs.specs.Names.{is_wildcard}
-use Rattle.erl_runs.specs.Value.{Value, integer, named_fun, no_bindings, came, going, Run}
+use Rattle.erl_runs.specs.Value.{Value, integer, named_fun, no_bindings, came, Run}
 use Rattle.erl_runs.specs.Matching.{with_variable}
 use Rattle.erl_runs.specs.Membership.{Program, InTerm, arrows_of}
-use Rattle.erl_runs.specs.Running.{Code, Applies, ends, meaning, gives, still_going, with_calls, run_expression, code_of, apply, program_of}
+use Rattle.erl_runs.specs.Running.{Code, Applies, ends, meaning, gives, with_calls, run_expression, code_of, apply, program_of}
 use Rattle.erl_runs.specs.Safety.{AlwaysIn, IsRightRun, IsSafe}
 use Rattle.erl_runs.proofs.FiniteMapLaws.{get-insert_same}
 use Rattle.erl_runs.proofs.RunLaws.{runs-Int, runs-Var}

@@ -13,7 +13,7 @@ use Rattle.erl_tree.specs.Functions.{clauses_arity}
 use Rattle.erl_runs.specs.Names.{is_wildcard}
 use Rattle.erl_runs.specs.Value.{Value, named_fun, no_bindings, Outcome}
 use Rattle.erl_runs.specs.Matching.{with_variable, Match, match_next, match_patterns, match_variable}
-use Rattle.erl_runs.specs.Running.{with_calls, Applies, Code, arity_of, run_kind, choice_kind, taken_anew, run_clauses, run_expression, run_function, find_numbered, code_of, apply}
+use Rattle.erl_runs.specs.Running.{with_calls, Applies, run_kind, choice_kind, taken_anew, run_clauses, run_expression, run_function, find_numbered, code_of, apply}
 use Rattle.erl_runs.proofs.MatchLaws.{match_kind-Var}
 use Rattle.erl_runs.proofs.RunLaws.{run_bound, one_clause-runs}
 use Rattle.erl_runs.proofs.BoundFree.{apply-step}

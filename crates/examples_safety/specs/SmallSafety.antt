@@ -6,7 +6,6 @@ use Rattle.type_terms.specs.declared.spec.FunSpec.{FunSpec}
 use Rattle.type_terms.specs.Instances.{Instance, no_variables, variable_and}
 use Rattle.type_terms.specs.Keys.{Name}
 use Rattle.erl_tree.specs.declared.token.Node.{Node}
-use Rattle.erl_tree.specs.declared.pattern.PatternKind.{PatternKind}
 use Rattle.erl_tree.specs.declared.pattern.PatternKind.TheVariants as P
 use Rattle.erl_tree.specs.declared.expr.ExprKind.{ExprKind}
 use Rattle.erl_tree.specs.declared.expr.ExprKind.TheVariants as X
