@@ -9,7 +9,7 @@ use Rattle.erl_tree.specs.declared.token.Node.{Node}
 use Rattle.erl_tree.specs.declared.expr.ExprKind.{ExprKind, out-ExprKind}
 use Rattle.erl_tree.specs.declared.expr.ExprKind.TheVariants as X
 use Rattle.erl_tree.specs.Functions.{functions_of}
-use Rattle.erl_runs.specs.Value.{Value, named_fun, Environment, no_bindings, Outcome, wrong, Run}
+use Rattle.erl_runs.specs.Value.{Value, named_fun, Environment, no_bindings, came, Outcome, wrong, Run}
 use Rattle.erl_runs.specs.Matching.{with_variable}
 use Rattle.erl_runs.specs.Membership.{Program, InTerm, IsGoodRun, ends_well, values_in}
 use Rattle.erl_runs.specs.Running.{Code, Applies, Does, gives, then, literal, behind, with_itself, is_fun_layer, with_calls, applies_nothing, arity_of, run_kind, run_expression, funs_in_functions, fun_arity, fun_layer_arity, run_closure, code_of, apply, program_of}
@@ -153,13 +153,16 @@ app-kept = to-safe (codes "app") (codes "F") (applies_argument one_written) app_
     (⊎_elim (λ (p : arrow integer_funs integers ≡ a). p) (λ n. absurd (contains-none a n)) (contains-cases (arrow integer_funs integers) a [] c))
     (app-right one_written one one-funs one-runs (λ p k j. refl) outside i args steps instance))
 
+pub keeps-inside : (k : ℕ) → InTerm (program_of (code_of app_of_atom (fun_that_keeps ∷ [])) app_spec given_definitions) k first_closure integer_funs given_definitions no_variables
+keeps-inside = closure-inside a_written atom_a a-funs a-runs (variable (codes "X")) (λ v steps h. subst (λ (r : Run Value). IsGoodRun (program_of (code_of app_of_atom (fun_that_keeps ∷ [])) app_spec given_definitions) r integers given_definitions no_variables) (sym (variable-runs (code_of app_of_atom (fun_that_keeps ∷ [])) (apply (code_of app_of_atom (fun_that_keeps ∷ []))) v steps)) (h, tt))
+
+pub gives-atom : (apply (code_of app_of_atom (fun_that_keeps ∷ [])) (named_fun (codes "app") 1) (first_closure ∷ []) 2).outcome ≡ came atom_a
+gives-atom = ap (λ (r : Run Value). r.outcome) (app-runs a_written atom_a a-funs a-runs (fun_that_keeps ∷ []) first_closure 1)
+    ∙ ap (λ (r : Run Value). r.outcome) (closure-runs a_written atom_a a-funs a-runs (variable (codes "X")) atom_a 0 ∙ variable-runs (code_of app_of_atom (fun_that_keeps ∷ [])) (apply (code_of app_of_atom (fun_that_keeps ∷ []))) atom_a 0)
+
 pub app-broken : IsSafe app_of_atom app_spec given_definitions → ⊥
 app-broken h =
     let c : Code = code_of app_of_atom (fun_that_keeps ∷ []) in
-    let p : Program = program_of c app_spec given_definitions in
-    let inside : (k : ℕ) → InTerm p k first_closure integer_funs given_definitions no_variables =
-    closure-inside a_written atom_a a-funs a-runs (variable (codes "X")) (λ v steps h. subst (λ (r : Run Value). IsGoodRun p r integers given_definitions no_variables) (sym (variable-runs c (apply c) v steps)) (h, tt)) in
-    let r : IsRightRun p (apply c (named_fun (codes "app") 1) (first_closure ∷ []) 2) integers no_variables =
-    from-safe (codes "app") (codes "F") (applies_argument a_written) app_spec h (fun_that_keeps ∷ []) (arrow integer_funs integers) no_variables (first_closure ∷ []) 2 (0, omega arith, refl) tt (λ k. (inside k, tt)) in
-    r.value atom_a (ap (λ (r : Run Value). r.outcome) (app-runs a_written atom_a a-funs a-runs (fun_that_keeps ∷ []) first_closure 1)
-    ∙ ap (λ (r : Run Value). r.outcome) (closure-runs a_written atom_a a-funs a-runs (variable (codes "X")) atom_a 0 ∙ variable-runs c (apply c) atom_a 0)) 0
+    let r : IsRightRun (program_of c app_spec given_definitions) (apply c (named_fun (codes "app") 1) (first_closure ∷ []) 2) integers no_variables =
+    from-safe (codes "app") (codes "F") (applies_argument a_written) app_spec h (fun_that_keeps ∷ []) (arrow integer_funs integers) no_variables (first_closure ∷ []) 2 (0, omega arith, refl) tt (λ k. (keeps-inside k, tt)) in
+    r.value atom_a gives-atom 0

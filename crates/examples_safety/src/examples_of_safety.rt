@@ -1,7 +1,7 @@
 //! What `IsSafe` says where a spec has several clauses, has type variables, or speaks of funs, each
 //! the contract of a function that does nothing.
 
-ghost use Rattle.std.specs.Prelude.{ℕ, suc, List, [], ◌∷◌, codes};
+ghost use Rattle.std.specs.Prelude.{◌≡◌, ℕ, suc, List, [], ◌∷◌, codes};
 ghost use Rattle.type_terms.specs.Definitions.{given_definitions};
 ghost use Rattle.type_terms.specs.Instances.{IsInstance, no_variables};
 ghost use Rattle.type_terms.specs.declared.term.Term.{Var};
@@ -9,7 +9,7 @@ ghost use Rattle.erl_tree.specs.declared.token.Node.{Node};
 ghost use Rattle.erl_tree.specs.declared.expr.ExprKind.{ExprKind};
 ghost use Rattle.erl_runs.specs.Membership.{InTerm};
 ghost use Rattle.erl_runs.specs.Running.{code_of, apply, program_of};
-ghost use Rattle.erl_runs.specs.Value.{Value, named_fun};
+ghost use Rattle.erl_runs.specs.Value.{Value, named_fun, came};
 ghost use Rattle.erl_runs.specs.Safety.{AlwaysIn, IsRightRun, IsSafe};
 ghost use Rattle.examples_safety.specs.SmallSafety.{
   first_clause,
@@ -28,6 +28,7 @@ ghost use Rattle.examples_safety.specs.SmallSafety.{
   fun_that_keeps,
   fun_that_breaks,
   first_closure,
+  atom_a,
 };
 
 /// `f(X) -> X.` is safe for `-spec f(integer()) -> integer(); (atom()) -> atom().`. `f(X) -> 0.` is
@@ -62,8 +63,12 @@ pub fn a_fun_that_keeps_its_type()
 {}
 
 /// `app(F) -> F(1).` is safe for `-spec app(fun((integer()) -> integer())) -> integer().`, whatever fun within
-/// its type the argument is. `app(F) -> F(a).` is not: `fun(X) -> X end` is within the type, and gives a.
+/// its type the argument is. `app(F) -> F(a).` is not: a closure of `fun(X) -> X end` is within the type at
+/// every level, and `app` of it gives a.
 pub fn a_fun_as_an_argument()
     ensures kept { IsSafe app_of_one app_spec given_definitions }
     ensures broken { IsSafe app_of_atom app_spec given_definitions → ⊥ }
+    ensures within { (k : ℕ) →
+        InTerm (program_of (code_of app_of_atom (fun_that_keeps ∷ [])) app_spec given_definitions) k first_closure integer_funs given_definitions no_variables }
+    ensures gives_atom { (apply (code_of app_of_atom (fun_that_keeps ∷ [])) (named_fun (codes "app") 1) (first_closure ∷ []) 2).outcome ≡ came atom_a }
 {}

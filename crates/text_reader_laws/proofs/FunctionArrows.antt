@@ -2,7 +2,7 @@
 use Rattle.std.proofs.Common.{◌≡◌, refl, ap, sym, subst, ◌∙◌, ℕ, ◌+◌, ◌<◌, List, [], ◌∷◌, ◌++◌, ◌||◌, length, map, ◌⊎◌, inl, inr, Bool, true, false, arith}
 use Rattle.std.specs.Prelude.{Option, Some, None, not, nat_eq}
 use Rattle.std.specs.Option.{option_map}
-use Rattle.std.specs.List.{Contains, list_any}
+use Rattle.std.specs.List.{list_any}
 use Rattle.std.proofs.lemmas.Bool.{and_parts, and_from, eqb-true, eq-eqb, true≢false}
 use Rattle.std.proofs.lemmas.List.{append-nil}
 use Rattle.type_terms.specs.Keys.{same_name}
@@ -24,7 +24,7 @@ use Rattle.erl_grammar.specs.FormGrammar.{IsSpec, spec, IsForm, spec_form, IsMod
 use Rattle.erl_runs.specs.Membership.{arrows_if, arrows_of}
 use Rattle.erl_runs.specs.Names.{same_id, is_built_in}
 use Rattle.erl_runs.specs.Records.{records_of}
-use Rattle.erl_runs.specs.Specs.{and_then, all_present, specs_in, specified_id, spec_id}
+use Rattle.erl_runs.specs.Specs.{and_then, specs_in, specified_id, spec_id}
 use Rattle.erl_scope_rules.specs.declared.fault.NameFault.{NameFault}
 use Rattle.erl_scope_rules.specs.declared.fault.NameFault.TheVariants.{TwoFunctions, NoSpec}
 use Rattle.erl_scope_rules.specs.ScopeFaults as N
