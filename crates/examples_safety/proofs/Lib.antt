@@ -1,0 +1,3 @@
+mod SmallRuns
+mod Safe
+mod FunArguments

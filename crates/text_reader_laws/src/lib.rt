@@ -1,0 +1,4 @@
+//! Laws of readable modules. Nothing stands on them.
+#![tactic(auto)]
+
+pub mod laws_of_functions;
