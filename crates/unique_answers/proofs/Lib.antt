@@ -1,0 +1,9 @@
+pub mod Small
+pub mod Refused
+pub mod Cycles
+pub mod FirstFault
+pub mod Tables
+pub mod LexFaults
+pub mod Ends
+pub mod ScopeFaults
+pub mod SpecFaults
