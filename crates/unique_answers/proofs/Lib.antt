@@ -7,3 +7,5 @@ pub mod LexFaults
 pub mod Ends
 pub mod ScopeFaults
 pub mod SpecFaults
+pub mod FirstFailure
+pub mod Loaded

@@ -4,6 +4,8 @@
 #![tactic(auto)]
 
 pub mod definitions;
+pub mod failures;
+pub mod files;
 pub mod graphs;
 pub mod lexing;
 pub mod look_ups;
