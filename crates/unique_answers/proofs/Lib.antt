@@ -9,3 +9,4 @@ pub mod ScopeFaults
 pub mod SpecFaults
 pub mod FirstFailure
 pub mod Loaded
+pub mod Outside

@@ -11,4 +11,5 @@ pub mod lexing;
 pub mod look_ups;
 pub mod names;
 pub mod parsing;
+pub mod sets;
 pub mod types;
