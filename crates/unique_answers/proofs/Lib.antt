@@ -1,0 +1,12 @@
+pub mod Small
+pub mod Refused
+pub mod Cycles
+pub mod FirstFault
+pub mod Tables
+pub mod LexFaults
+pub mod Ends
+pub mod ScopeFaults
+pub mod SpecFaults
+pub mod FirstFailure
+pub mod Loaded
+pub mod Outside

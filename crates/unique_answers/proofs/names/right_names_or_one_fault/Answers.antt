@@ -1,0 +1,8 @@
+use Rattle.unique_answers.proofs.ScopeFaults.{one-fault, right-or-fault}
+use Rattle.unique_answers.proofs.names.right_names_or_one_fault.Goals as goal
+
+pub returns-clause-one_fault : goal.returns-clause-one_fault
+returns-clause-one_fault c = one-fault
+
+pub returns-clause-never_both : goal.returns-clause-never_both
+returns-clause-never_both c = right-or-fault
