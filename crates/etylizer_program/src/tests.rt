@@ -67,11 +67,21 @@ fn expect(
 }
 
 /// The lines behind `-module(a).`, the status and the output.
-const MODULES: [(&[u8], Status, &[u8]); 28] = [
+const MODULES: [(&[u8], Status, &[u8]); 30] = [
     (
         b"-spec f(integer()) -> integer().\nf(X) -> X.\n",
         0,
         b"accepted a: 1 functions, 1 clauses\n",
+    ),
+    (
+        b"-spec f() -> integer().\nf() -> 1 + a.\n",
+        1,
+        b"refused a: f/0 clause 1 at 3:12: operand: a\n",
+    ),
+    (
+        b"-spec f() -> a.\nf() -> 7.\n",
+        1,
+        b"refused a: f/0 clause 1 at 3:8: result: 7\n",
     ),
     (b"", 0, b"accepted a: 0 functions, 0 clauses\n"),
     (
