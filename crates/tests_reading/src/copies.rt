@@ -72,7 +72,14 @@ fn copies(rt: HostRuntime) -> Result<(), Fail> {
         body: map_term(alloc)?,
     };
     assert!(rt;
-        matches!(def.copy(alloc)?.body, Term::Map { rest_int: None, rest_atom: Some(_), .. })
+        matches!(
+            def.copy(alloc)?.body,
+            Term::Map {
+                rest_int: None,
+                rest_atom: Some(_),
+                ..
+            }
+        )
     );
     assert_eq!(rt; spec(alloc)?.copy(alloc)?.clauses.len(), 1);
     let place = Place { line: 2, column: 3 };
