@@ -72,9 +72,6 @@ fn copies(rt: HostRuntime) -> Result<(), Fail> {
         body: map_term(alloc)?,
     };
     assert!(rt;
-<<<<<<< HEAD
-        matches!(def.copy(alloc)?.body, Term::Map { rest_int: None, rest_atom: Some(_), .. })
-=======
         matches!(
             def.copy(alloc)?.body,
             Term::Map {
@@ -83,7 +80,6 @@ fn copies(rt: HostRuntime) -> Result<(), Fail> {
                 ..
             }
         )
->>>>>>> f7c38b992e31080d19180e20700ccd25499aeed5
     );
     assert_eq!(rt; spec(alloc)?.copy(alloc)?.clauses.len(), 1);
     let place = Place { line: 2, column: 3 };

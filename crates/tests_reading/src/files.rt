@@ -48,14 +48,10 @@ fn files_in_memory(rt: HostRuntime) -> Result<(), Fail> {
     assert!(rt; files.store(&name, &bytes).is_ok());
     let stored = files.bytes_of(&name).ok_or("nothing is held")?;
     assert_eq!(rt; stored.as_slice(), b"xy".as_slice());
-<<<<<<< HEAD
-    assert_eq!(rt; files.load(alloc, &missing, 2).err(), Some(LoadFault::Failed));
-=======
     assert_eq!(rt;
         files.load(alloc, &missing, 2).err(),
         Some(LoadFault::Failed)
     );
->>>>>>> f7c38b992e31080d19180e20700ccd25499aeed5
     assert!(rt; files.bytes_of(&missing).is_none());
     Ok(())
 }
@@ -86,14 +82,10 @@ fn real_files_and_output(rt: HostRuntime) -> Result<(), Fail> {
         assert_eq!(rt; loaded.as_slice(), wanted);
     }
     let missing = Text::from_slice(alloc, b"etylizer-test.none")?;
-<<<<<<< HEAD
-    assert_eq!(rt; files.load(alloc, &missing, 6).err(), Some(LoadFault::Failed));
-=======
     assert_eq!(rt;
         files.load(alloc, &missing, 6).err(),
         Some(LoadFault::Failed)
     );
->>>>>>> f7c38b992e31080d19180e20700ccd25499aeed5
     let mut out = StdSink::new(rt.stdout());
     assert!(rt; out.put(&bytes).is_ok());
     Ok(())

@@ -111,12 +111,6 @@ fn elements_outside(rt: HostRuntime) -> Result<(), Fail> {
     let a = Piece::Atom(b"a");
     let overlapping = [range(7, 9), range(1, 8), range(2, 3)];
     let split = [up_to(5), from(7)];
-<<<<<<< HEAD
-    let some = [Piece::Atom(b"foo"), a, Piece::Atom(b"foo"), Piece::Atom(b"")];
-    let table: [Row; 16] = [
-        (&[INTEGER], &[range(1, 3)], Wanted::Integer(0)),
-        (&[range(1, 9)], &[range(5, 9), range(1, 3)], Wanted::Integer(4)),
-=======
     let some = [
         Piece::Atom(b"foo"),
         a,
@@ -130,7 +124,6 @@ fn elements_outside(rt: HostRuntime) -> Result<(), Fail> {
             &[range(5, 9), range(1, 3)],
             Wanted::Integer(4),
         ),
->>>>>>> f7c38b992e31080d19180e20700ccd25499aeed5
         (&[range(1, 9)], &overlapping, Wanted::Nothing),
         (&overlapping, &[range(1, 8)], Wanted::Integer(9)),
         (&[range(-6, -1)], &[range(-6, -3)], Wanted::Integer(-1)),

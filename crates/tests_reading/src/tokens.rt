@@ -60,14 +60,10 @@ const NUMBERS: [Row; 12] = [
 
 /// Strings and quoted atoms with escapes, over lines and empty.
 const QUOTED: [Row; 4] = [
-<<<<<<< HEAD
-    (b"\"\xc3\xa9\" x", b"1:1 str \xc3\xa9, 1:5 atom x, 1:6 end, "),
-=======
     (
         b"\"\xc3\xa9\" x",
         b"1:1 str \xc3\xa9, 1:5 atom x, 1:6 end, ",
     ),
->>>>>>> f7c38b992e31080d19180e20700ccd25499aeed5
     (
         b"\"a\nb%\"'c\\'d'",
         b"1:1 str a\nb%, 2:4 atom c'd, 2:10 end, ",
