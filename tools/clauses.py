@@ -277,7 +277,8 @@ def main(arguments):
             target = of_path(path)
             if target in old:
                 sys.exit(f'renamed.tsv maps two paths to {target}')
-            old[target] = path, [of_text(clause) for clause in clauses]
+            name = 'fn ' + target.split('::')[-1]
+            old[target] = path, [re.sub(r'^fn \w+', name, of_text(clause)) for clause in clauses]
         for path in sorted({*old, *new}):
             if path not in new:
                 count += 1
