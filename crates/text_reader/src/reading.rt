@@ -75,11 +75,7 @@ fn read_or_refuse(alloc: Global, text: &[u8]) -> Result<ReadModule, ReadFault>
 }
 
 /// The module whose tokens a text was lexed as.
-fn read_tokens(
-    alloc: Global,
-    text: &[u8],
-    tokens: &List<Placed>,
-) -> Result<ReadModule, ReadFault>
+fn read_tokens(alloc: Global, text: &[u8], tokens: &List<Placed>) -> Result<ReadModule, ReadFault>
     requires lexed { IsLexed text.now tokens.now }
     ensures read { IfOk result (λ r. IsReadModule text.now r.tree r.scopes r.specs) }
     ensures refused { IfErr result (IsReadRefusal text.now) }
