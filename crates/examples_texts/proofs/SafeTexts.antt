@@ -6,7 +6,7 @@ use Rattle.erl_runs.specs.Safety.{IsSafe}
 use Rattle.erl_parser.proofs.TextLaws.{one_module}
 use Rattle.text_reader_rules.specs.Readable.{IsReadable}
 use Rattle.text_reader_rules.specs.SafeTexts.{IsSafeText}
-use Rattle.examples_texts.specs.SmallTexts.{text_that_keeps, text_that_breaks, module_that_keeps, module_that_breaks, its_specs}
+use Rattle.examples_texts.specs.SmallTexts.{text_that_keeps, text_that_breaks, module_that_keeps, module_that_breaks}
 use Rattle.examples_texts.proofs.TextsSpelled.{keeps_is_spelled, breaks_is_spelled}
 use Rattle.examples_texts.proofs.TextsReadable.{keeps-readable, its-functions}
 use Rattle.examples_texts.proofs.TextsRun.{keeps-safe, breaks-not-safe}

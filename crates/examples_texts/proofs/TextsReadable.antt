@@ -1,6 +1,6 @@
 -- The modules of the texts are readable.
-use Rattle.std.proofs.Common.{◌≡◌, ◌∙◌, refl, ap, sym, subst, ℕ, zero, suc, [], ◌∷◌, inl, inr}
-use Rattle.std.specs.Prelude.{Some, slice_get, codes}
+use Rattle.std.proofs.Common.{◌≡◌, ◌∙◌, ap, sym, subst, ℕ, zero, suc, [], inl, inr}
+use Rattle.std.specs.Prelude.{Some, slice_get}
 use Rattle.std.specs.Option.{unwrap_or}
 use Rattle.type_terms.specs.Paths.{IsPath, edge, onward}
 use Rattle.type_terms.proofs.Contained.{contains-none}

@@ -4,9 +4,7 @@ use Rattle.std.specs.Prelude.{Some, None as Open, cond, nat_eq, codes}
 use Rattle.std.specs.List.{Contains}
 use Rattle.type_terms.specs.declared.spec.Arrow.{Arrow}
 use Rattle.type_terms.specs.declared.term.Term.{Term, Ints}
-use Rattle.type_terms.specs.declared.term.Key.TheVariants.{Atom as AtomKey}
 use Rattle.type_terms.specs.Instances.{Instance, IsInstance, no_variables}
-use Rattle.type_terms.specs.Keys.{Name, any_atom}
 use Rattle.type_terms.proofs.Contained.{contains-none, contains-cases}
 use Rattle.erl_tree.specs.declared.token.Node.{Node}
 use Rattle.erl_tree.specs.declared.expr.ExprKind.{ExprKind}
@@ -20,9 +18,8 @@ use Rattle.erl_grammar.specs.Grammar.{node}
 use Rattle.erl_runs.specs.Value.{Value, integer, atom, named_fun, no_bindings, wrong, came, Run}
 use Rattle.erl_runs.specs.Matching.{with_variable, Match, match_next, match_patterns}
 use Rattle.erl_runs.specs.Membership.{Program, InTerm, arrows_of}
-use Rattle.erl_runs.specs.Running.{Code, Applies, ends, meaning, gives, with_calls, arity_of, run_expression, run_function, find_numbered, code_of, apply, program_of}
+use Rattle.erl_runs.specs.Running.{Code, Applies, gives, with_calls, arity_of, run_expression, run_function, find_numbered, code_of, apply, program_of}
 use Rattle.erl_runs.specs.Safety.{AlwaysIn, IsRightRun, IsSafe}
-use Rattle.erl_runs.proofs.FiniteMapLaws.{get-insert_same}
 use Rattle.erl_runs.proofs.MatchLaws.{match_kind-Var}
 use Rattle.erl_runs.proofs.RunLaws.{run_bound, one_clause-runs, runs-Atom, runs-Var}
 use Rattle.erl_runs.proofs.BoundFree.{apply-none, apply-step}

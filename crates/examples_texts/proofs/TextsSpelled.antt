@@ -1,5 +1,5 @@
 -- The texts spell their modules.
-use Rattle.std.proofs.Common.{◌≡◌, refl, sym, ◌∙◌, subst, List, [], ◌∷◌, inl, inr, arith}
+use Rattle.std.proofs.Common.{◌≡◌, refl, sym, ◌∙◌, subst, List, [], ◌∷◌, inl, arith}
 use Rattle.std.specs.Prelude.{None, codes}
 use Rattle.std.proofs.Math.Utf8.{encode}
 use Rattle.erl_tree.specs.declared.token.Token.{Token}
@@ -7,9 +7,7 @@ use Rattle.erl_tree.specs.declared.token.Token.TheVariants as T
 use Rattle.erl_tree.specs.declared.token.Placed.{Placed}
 use Rattle.erl_tree.specs.declared.expr.ExprKind.{ExprKind}
 use Rattle.erl_tree.specs.declared.expr.ExprKind.TheVariants as X
-use Rattle.erl_tree.specs.declared.form.TreeForm.{TreeForm}
 use Rattle.erl_tree.specs.declared.form.TreeForm.TheVariants as F
-use Rattle.erl_tree.specs.Lists.{Among}
 use Rattle.erl_tree.specs.Lexis.{is_token_text, token_of, Spells, SpellsTokens, start}
 use Rattle.erl_tree.specs.SmallText.{place, placed}
 use Rattle.erl_tree.proofs.LongestTexts.{longest, longest_last}
