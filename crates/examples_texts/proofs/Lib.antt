@@ -1,0 +1,4 @@
+mod TextsSpelled
+mod TextsReadable
+mod TextsRun
+mod SafeTexts
