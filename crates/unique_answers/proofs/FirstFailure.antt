@@ -32,7 +32,7 @@ module _ (owed : List Constraint) where
   one-constraint : (f g : ℕ) (p q : Place) (k l : Kind) (s t : Shown) → IsFirstFailure owed f p k s → IsFirstFailure owed g q l t → (f ≡ g) × ((p ≡ q) × (k ≡ l))
   one-constraint f g p q k l s t a b =
       let same : record { function = f; place = p; kind = k; left = a.left; right = a.right } ≡ record { function = g; place = q; kind = l; left = b.left; right = b.right } =
-              one-in-list a.before b.before a.after b.after _ _ (sym a.listed ∙ b.listed) a.earlier b.earlier a.fails b.fails
+      one-in-list a.before b.before a.after b.after _ _ (sym a.listed ∙ b.listed) a.earlier b.earlier a.fails b.fails
       in (ap (λ (c : Constraint). c.function) same, (ap (λ (c : Constraint). c.place) same, ap (λ (c : Constraint). c.kind) same))
 
 pub one-failure : (m : Module) (f g : ℕ) (p q : Place) (k l : Kind) (s t : Shown) → ShowsFirstFailure m (Failed f p k s) → ShowsFirstFailure m (Failed g q l t) → (f ≡ g) × ((p ≡ q) × (k ≡ l))

@@ -5,7 +5,7 @@ use Rattle.erl_tree.specs.declared.form.Module.{Module}
 use Rattle.erl_tree.specs.declared.token.Node.{Node}
 use Rattle.erl_tree.specs.declared.token.Place.{Place}
 use Rattle.erl_tree.specs.declared.type_expr.TypeKind.{TypeKind}
-use Rattle.erl_tree.specs.Lists.{Among, Every}
+use Rattle.erl_tree.specs.Lists.{Among}
 use Rattle.erl_grammar.proofs.Layers.{each}
 use Rattle.typespecs_rules.specs.Declarations.{Declarations}
 use Rattle.typespecs_rules.specs.declared.fault.TypeFault.{TypeFault}
