@@ -1,5 +1,5 @@
 -- Tokens before the end of the text are those of one tree.
-use Rattle.std.proofs.Common.{◌≡◌, refl, sym, ap, ◌∙◌, List, [], ◌∷◌, ◌++◌}
+use Rattle.std.proofs.Common.{◌≡◌, refl, sym, ◌∙◌, List, [], ◌∷◌, ◌++◌}
 use Rattle.erl_tree.specs.declared.token.Placed.{Placed}
 use Rattle.erl_grammar.specs.Grammar.{IsExpr, IsPattern}
 use Rattle.erl_grammar.specs.Spelling.{expr_tokens, pattern_tokens}

@@ -1,5 +1,5 @@
 -- Bytes have one first fault, and none where they spell tokens.
-use Rattle.std.proofs.Common.{◌≡◌, refl, sym, ℕ, List, Ok, Err}
+use Rattle.std.proofs.Common.{◌≡◌, refl, sym, ℕ, List, Err}
 use Rattle.std.specs.Prelude.{◌≢◌}
 use Rattle.erl_tree.specs.Profile.{IsLexed}
 use Rattle.erl_tree.specs.declared.token.Placed.{Placed}

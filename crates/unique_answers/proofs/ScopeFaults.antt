@@ -6,7 +6,7 @@ use Rattle.erl_tree.specs.declared.token.Place.{Place}
 use Rattle.erl_scope_rules.specs.declared.fault.NameFault.{NameFault}
 use Rattle.erl_scope_rules.specs.declared.fault.NameFault.TheVariants as kinds
 use Rattle.erl_scope_rules.specs.declared.fault.PlacedFault.{PlacedFault}
-use Rattle.erl_scope_rules.specs.ScopeFaults.{faults_of, HasRightNames, IsFirstFault}
+use Rattle.erl_scope_rules.specs.ScopeFaults.{HasRightNames, IsFirstFault}
 use Rattle.erl_tree.specs.Lists.{Among}
 use Rattle.erl_scope.specs.FaultPlaces.{placed_fault}
 use Rattle.erl_scope.specs.declared.fault.ScopeFault.{ScopeFault}

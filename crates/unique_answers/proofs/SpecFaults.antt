@@ -1,11 +1,11 @@
 -- An answer about types is told by the fault and its place.
-use Rattle.std.proofs.Common.{◌≡◌, refl, sym, ap, subst, ◌∙◌, List, []}
+use Rattle.std.proofs.Common.{◌≡◌, refl, sym, ap, subst, ◌∙◌, false, []}
 use Rattle.std.specs.Prelude.{◌≢◌, IfSome, Some}
 use Rattle.erl_tree.specs.declared.form.Module.{Module}
 use Rattle.erl_tree.specs.declared.token.Node.{Node}
 use Rattle.erl_tree.specs.declared.token.Place.{Place}
 use Rattle.erl_tree.specs.declared.type_expr.TypeKind.{TypeKind}
-use Rattle.erl_tree.specs.Lists.{Among, Every}
+use Rattle.erl_tree.specs.Lists.{Among}
 use Rattle.erl_grammar.proofs.Layers.{each}
 use Rattle.typespecs_rules.specs.Declarations.{Declarations}
 use Rattle.typespecs_rules.specs.declared.fault.TypeFault.{TypeFault}
@@ -86,7 +86,7 @@ specs-or-fault m s f h = none-told (IsFirstFault m) (λ x. no-first m s x h) f
 
 one-first-alone : (d : Declarations) (t : Node TypeKind) (x y : PlacedFault) → IsFirstTypeFault d t x → IsFirstTypeFault d t y → x ≡ y
 one-first-alone d t x y h k =
-    neither-earlier x y (each (λ z. is_earlier z y ≡ false) (type_faults d any_variable t) k.first h.stands) (each (λ z. is_earlier z x ≡ false) (type_faults d any_variable t) h.first k.stands)
+    neither-earlier x y (each (λ z. is_earlier z y ≡ false) (type_faults d any_variable t) k.first x h.stands) (each (λ z. is_earlier z x ≡ false) (type_faults d any_variable t) h.first y k.stands)
 
 pub one-fault-alone : (d : Declarations) (t : Node TypeKind) (f g : SpecFault) → IfSome (placed_fault f) (IsFirstTypeFault d t) → IfSome (placed_fault g) (IsFirstTypeFault d t) → f ≢ NoMemory → g ≢ NoMemory → f ≡ g
 one-fault-alone d t = one-told (IsFirstTypeFault d t) (one-first-alone d t)
